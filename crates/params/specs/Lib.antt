@@ -1,0 +1,2 @@
+pub mod Params
+pub mod Sets
