@@ -1,0 +1,4 @@
+pub mod Feed
+pub mod Blocks
+pub mod Lane
+pub mod Output

@@ -1,0 +1,3 @@
+pub mod Sponge
+pub mod Progress
+pub mod Vectors
