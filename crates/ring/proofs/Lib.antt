@@ -1,0 +1,5 @@
+pub mod Modular
+pub mod Polynomials
+pub mod Algebra
+pub mod Centring
+mod Loops
