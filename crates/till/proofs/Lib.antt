@@ -1,0 +1,4 @@
+pub mod Filling
+pub mod Parts
+pub mod Hits
+pub mod Accepting
