@@ -1,0 +1,5 @@
+use mathlib.Core.Path.{refl}
+use Rattle.rows.proofs.rows_hold.Needs as need
+
+pub returns : need.returns
+returns c = record { x-to-four = refl; product-row = refl; highest-positive = refl; lowest-negative = refl; challenge-byte = refl }
