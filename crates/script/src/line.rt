@@ -1,4 +1,8 @@
 // One line.
+ghost use Rattle.script.specs.Answers.{Quiet};
+ghost use Rattle.script.specs.declared.command.Command.the-variants.{Nothing};
+ghost use Rattle.std.specs.declared.result.Result.the-variants.{Ok};
+ghost use mathlib.Core.Path.{_≡_};
 use crate::command::Action;
 use crate::command::Call;
 use crate::command::Command;
@@ -128,7 +132,9 @@ fn command(heap: Global, text: &str) -> Result<Command, Unread> {
 }
 
 // What a line asks for.
-pub fn parse(heap: Global, line: &[u8]) -> Result<Command, Unread> {
+pub fn parse(heap: Global, line: &[u8]) -> Result<Command, Unread>
+    ensures { λ r. ⌜ (Quiet (now (line .entry)) → r ≡ Ok Nothing) ⌝ }
+{
     match line {
         [] | [b'#', ..] => Ok(Command::Nothing),
         _ => match from_utf8(line) {

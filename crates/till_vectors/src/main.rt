@@ -2,7 +2,7 @@
 use std::io;
 
 fn main(rt: LibcRuntime) -> io::Result<()> {
-    let result = world::run(&rt);
+    let result = runner::run(&rt);
     if let Err(e) = &result {
         eprintln!(rt, "scenario: {e}")?;
     }

@@ -1,6 +1,4 @@
-// A scenario from standard input, carried out line by line.
-use crate::answer::AnswerDisplay;
-use crate::state::World;
+// A scenario from standard input, carried out line by line. What it prints is tested, not proved.
 use script::Action;
 use script::Command;
 use script::Unread;
@@ -12,6 +10,8 @@ use std::io::BufRead;
 use std::io::BufReader;
 use std::io::BufWriter;
 use std::io::Write;
+use world::AnswerDisplay;
+use world::World;
 
 fn write_words<W: Write>(out: &mut W, words: &[u32]) -> io::Result<()> {
     for word in words {
