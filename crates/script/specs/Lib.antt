@@ -1,2 +1,3 @@
 pub mod Words
 pub mod Answers
+pub mod Lines

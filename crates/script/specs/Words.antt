@@ -11,12 +11,16 @@ use Rattle.std.specs.Text.{digitValue}
 abbrev pub Decimal : ℕ → List ℕ → Type 0
 Decimal max word = Numeral 10 word × (value 10 word ≤ max)
 
+-- a word, and the number that it writes, at most max
+abbrev pub Number : ℕ → List ℕ → ℕ → Type 0
+Number max word n = Decimal max word × (n ≡ value 10 word)
+
 -- the words write these numbers, each at most max
 abbrev pub Write : ℕ → List (List ℕ) → List ℕ → Type 0
 Write max [] [] = Unit {0}
 Write max [] (v ∷ vs) = ⊥
 Write max (w ∷ ws) [] = ⊥
-Write max (w ∷ ws) (v ∷ vs) = Decimal max w × (v ≡ value 10 w) × Write max ws vs
+Write max (w ∷ ws) (v ∷ vs) = Number max w v × Write max ws vs
 
 -- a text of words, parted by one space, that write these numbers
 abbrev pub Writes : ℕ → List ℕ → List ℕ → Type 0

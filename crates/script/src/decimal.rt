@@ -1,11 +1,10 @@
 // Decimal numbers.
 ghost use Prim.Native.Nat.{ℕ};
 ghost use Rattle.script.specs.Answers.{Reads};
-ghost use Rattle.script.specs.Words.{Decimal, Writes};
+ghost use Rattle.script.specs.Words.{Decimal, Number, Writes};
 ghost use Rattle.std.specs.Numbers.{Checked};
 ghost use Rattle.std.specs.Of.Vec.{vec-items};
 ghost use Rattle.std.specs.Reads.{value};
-ghost use mathlib.Core.Path.{_≡_};
 use crate::unread::Unread;
 use crate::unread::UnreadFromRefused;
 use std::alloc::Global;
@@ -25,7 +24,7 @@ pub fn number(word: &str, max: u64) -> Option<u64>
 
 // The number of a word of an area.
 fn area_word(word: &str) -> Result<u32, Unread>
-    ensures { λ r. ⌜ Reads (λ n. Decimal 4294967295 (now (word .entry)) × (n ≡ value 10 (now (word .entry)))) (Decimal 4294967295 (now (word .entry)) → ⊥) r ⌝ }
+    ensures { λ r. ⌜ Reads (Number 4294967295 (now (word .entry))) (Decimal 4294967295 (now (word .entry)) → ⊥) r ⌝ }
 {
     match number(word, u32::MAX as u64) {
         Some(number) => Ok(number as u32),

@@ -1,7 +1,12 @@
 // One line.
-ghost use Rattle.script.specs.Answers.{Quiet};
+ghost use Prim.Native.Nat.{ℕ};
+ghost use Rattle.script.specs.Lines.{Area, Asks, Calls, Quiet, Says, spaced};
 ghost use Rattle.script.specs.declared.command.Command.the-variants.{Nothing};
+ghost use Rattle.std.specs.Of.Vec.{vec-items};
+ghost use Rattle.std.specs.Vec.{made};
 ghost use Rattle.std.specs.declared.result.Result.the-variants.{Ok};
+ghost use lib.Chars.{codes};
+ghost use mathlib.Core.List.{List, _++_};
 ghost use mathlib.Core.Path.{_≡_};
 use crate::command::Action;
 use crate::command::Call;
@@ -16,7 +21,9 @@ use std::alloc::Global;
 use std::str::from_utf8;
 
 // The first word, and what stands behind the space after it, if there is one.
-fn first_word(text: &str) -> (&str, Option<&str>) {
+fn first_word(text: &str) -> (&str, Option<&str>)
+    ensures { λ r. ⌜ now (text .entry) ≡ spaced (now (r .0)) (r .1) ⌝ }
+{
     match text.split_once(' ') {
         Some((word, rest)) => (word, Some(rest)),
         None => (text, None),
@@ -24,14 +31,18 @@ fn first_word(text: &str) -> (&str, Option<&str>) {
 }
 
 // The words of an area, of which there may be none.
-fn area(heap: Global, rest: Option<&str>) -> Result<Vec<u32>, Unread> {
+fn area(heap: Global, rest: Option<&str>) -> Result<Vec<u32>, Unread>
+    ensures { λ r. ⌜ made r (λ v. (name : List ℕ) → Area name (spaced name (rest .entry)) (vec-items v)) ⌝ }
+{
     match rest {
         Some(text) => numbers(heap, text),
         None => Ok(Vec::new(heap)),
     }
 }
 
-fn poke_public(place: &str) -> Result<Action, Unread> {
+fn poke_public(place: &str) -> Result<Action, Unread>
+    ensures { λ r. ⌜ made r (Asks (codes "poke public " ++ now (place .entry))) ⌝ }
+{
     let Some((index, value)) = place.split_once(' ') else {
         return Err(Unread::NotUnderstood);
     };
@@ -44,7 +55,9 @@ fn poke_public(place: &str) -> Result<Action, Unread> {
     }
 }
 
-fn poke(rest: Option<&str>) -> Result<Action, Unread> {
+fn poke(rest: Option<&str>) -> Result<Action, Unread>
+    ensures { λ r. ⌜ made r (Asks (spaced (codes "poke") (rest .entry))) ⌝ }
+{
     let Some(text) = rest else {
         return Err(Unread::NotUnderstood);
     };
@@ -54,14 +67,21 @@ fn poke(rest: Option<&str>) -> Result<Action, Unread> {
     }
 }
 
-fn show(rest: Option<&str>) -> Result<Action, Unread> {
-    match rest {
-        Some("public") => Ok(Action::ShowPublic),
+fn show(rest: Option<&str>) -> Result<Action, Unread>
+    ensures { λ r. ⌜ made r (Asks (spaced (codes "show") (rest .entry))) ⌝ }
+{
+    let Some(area) = rest else {
+        return Err(Unread::NotUnderstood);
+    };
+    match area {
+        "public" => Ok(Action::ShowPublic),
         _ => Err(Unread::NotUnderstood),
     }
 }
 
-fn new_till(rest: Option<&str>) -> Result<Action, Unread> {
+fn new_till(rest: Option<&str>) -> Result<Action, Unread>
+    ensures { λ r. ⌜ made r (Asks (spaced (codes "till") (rest .entry))) ⌝ }
+{
     let Some(word) = rest else {
         return Ok(Action::NewTill(None));
     };
@@ -71,7 +91,9 @@ fn new_till(rest: Option<&str>) -> Result<Action, Unread> {
     }
 }
 
-fn check(heap: Global, rest: Option<&str>) -> Result<Call, Unread> {
+fn check(heap: Global, rest: Option<&str>) -> Result<Call, Unread>
+    ensures { λ r. ⌜ made r (Calls (spaced (codes "check") (rest .entry))) ⌝ }
+{
     match rest {
         None => Ok(Call::Check(Shown::Bytes(Vec::new(heap)))),
         Some("last") => Ok(Call::Check(Shown::Last)),
@@ -80,14 +102,18 @@ fn check(heap: Global, rest: Option<&str>) -> Result<Call, Unread> {
 }
 
 // A line that may be repeated.
-fn call(heap: Global, text: &str) -> Result<Call, Unread> {
+fn call(heap: Global, text: &str) -> Result<Call, Unread>
+    ensures { λ r. ⌜ made r (Calls (now (text .entry))) ⌝ }
+{
     match first_word(text) {
         ("check", rest) => check(heap, rest),
         _ => Err(Unread::NotUnderstood),
     }
 }
 
-fn repeat(heap: Global, rest: Option<&str>) -> Result<Action, Unread> {
+fn repeat(heap: Global, rest: Option<&str>) -> Result<Action, Unread>
+    ensures { λ r. ⌜ made r (Asks (spaced (codes "repeat") (rest .entry))) ⌝ }
+{
     let Some(text) = rest else {
         return Err(Unread::NotUnderstood);
     };
@@ -103,7 +129,9 @@ fn repeat(heap: Global, rest: Option<&str>) -> Result<Action, Unread> {
     }
 }
 
-fn action(heap: Global, text: &str) -> Result<Action, Unread> {
+fn action(heap: Global, text: &str) -> Result<Action, Unread>
+    ensures { λ r. ⌜ made r (Asks (now (text .entry))) ⌝ }
+{
     let (word, rest) = first_word(text);
     match word {
         "a" => Ok(Action::WordsOfA(area(heap, rest)?)),
@@ -116,7 +144,9 @@ fn action(heap: Global, text: &str) -> Result<Action, Unread> {
     }
 }
 
-fn start(name: &str) -> Result<Command, Unread> {
+fn start(name: &str) -> Result<Command, Unread>
+    ensures { λ r. ⌜ made r (Says (codes "set " ++ now (name .entry))) ⌝ }
+{
     match name {
         "S" => Ok(Command::Start(SetName::S)),
         "I" => Ok(Command::Start(SetName::I)),
@@ -124,7 +154,9 @@ fn start(name: &str) -> Result<Command, Unread> {
     }
 }
 
-fn command(heap: Global, text: &str) -> Result<Command, Unread> {
+fn command(heap: Global, text: &str) -> Result<Command, Unread>
+    ensures { λ r. ⌜ made r (Says (now (text .entry))) ⌝ }
+{
     match first_word(text) {
         ("set", Some(name)) => start(name),
         _ => Ok(Command::Act(action(heap, text)?)),
@@ -133,7 +165,8 @@ fn command(heap: Global, text: &str) -> Result<Command, Unread> {
 
 // What a line asks for.
 pub fn parse(heap: Global, line: &[u8]) -> Result<Command, Unread>
-    ensures { λ r. ⌜ (Quiet (now (line .entry)) → r ≡ Ok Nothing) ⌝ }
+    ensures says { λ r. ⌜ made r (Says (now (line .entry))) ⌝ }
+    ensures quiet { λ r. ⌜ (Quiet (now (line .entry)) → r ≡ Ok Nothing) ⌝ }
 {
     match line {
         [] | [b'#', ..] => Ok(Command::Nothing),

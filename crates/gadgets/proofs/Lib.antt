@@ -1,0 +1,4 @@
+pub mod Sharewise
+pub mod Carries
+pub mod Selection
+pub mod Masks

@@ -1,0 +1,5 @@
+pub mod Spendings
+pub mod Meters
+mod Tapes
+pub mod Checks
+mod Streams
