@@ -4,6 +4,7 @@ ghost use Rattle.challenge.specs.Challenge.{challenge, filled, message, place,
 ghost use Rattle.record.specs.Layout.{le4};
 ghost use Rattle.shake.specs.Progress.{Absorbing, Reading};
 ghost use Rattle.std.specs.Joined.{joined};
+ghost use lib.Dec.{eqb};
 ghost use lib.ListN.{length, replicate};
 ghost use mathlib.Core.List.{List, _++_};
 ghost use mathlib.Core.Path.{_≡_};
@@ -47,6 +48,13 @@ fn absorb_residues(hasher: &mut Shake256, r: &[u32])
     }
 }
 
+// Whether no word has set a coefficient yet.
+fn is_free(coefficient: u32) -> bool
+    ensures { λ r. ⌜ r ≡ eqb coefficient 0 ⌝ }
+{
+    coefficient == 0
+}
+
 // Takes words of the hash until all positions are found, at most 512.
 fn fill_from<S: ParamSet>(c: &mut [u32], words: &mut Squeezer)
     requires { ⌜ length (now c) ≡ params .n ⌝ }
@@ -58,7 +66,7 @@ fn fill_from<S: ParamSet>(c: &mut [u32], words: &mut Squeezer)
             break;
         }
         let (position, sign) = place::<S>(words.next_u16());
-        if c[position] == 0 {
+        if is_free(c[position]) {
             c[position] = unit::<S>(sign);
             wanted -= 1;
         }

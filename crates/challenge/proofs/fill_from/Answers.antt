@@ -6,9 +6,10 @@ use native.Mathlib.Omega.{arith}
 use Prim.Native.Nat.{ℕ, _+_, _-_, _*_, _%_, _<_}
 use Rattle.challenge.proofs.Filling.{all-found, all-read, position-free, position-taken}
 use Rattle.challenge.proofs.fill_from.Needs as need
-use Rattle.challenge.proofs.fill_from.Needs.{then-c-position-eq0, else-c-position-eq0}
+use Rattle.challenge.proofs.fill_from.Needs.{then-is-free, else-is-free}
 use Rattle.challenge.specs.Challenge.{filled, place, stream, unit}
 use Rattle.challenge.specs.declared.Sign.{Sign}
+use Rattle.std.proofs.shelf.Tests.{eqb-false, eqb-true}
 use Rattle.shake.specs.Progress.{Reading}
 
 pub words-again : need.words-again
@@ -23,14 +24,14 @@ words-again g c m a =
     let at : c .place-position .result .0 ≡ word % s .n = ap (λ (q : ℕ × Sign). q .0) (c .place-position .ensures) in
     let sign : c .place-position .result .1 ≡ place (s .n) word .1 = ap (λ (q : ℕ × Sign). q .1) (c .place-position .ensures) in (
       subst P (omega arith) (read .1),
-      elim (c .if-c-position-eq0 .came) [
-        | then-c-position-eq0 w ↦
-            let free : getD (c .words .c) (word % s .n) 0 ≡ 0 = ap (λ (i : ℕ). getD (c .words .c) i 0) (sym at) ∙ w .if-c-position-eq0 .taken in
+      elim (c .if-is-free .came) [
+        | then-is-free w ↦
+            let free : getD (c .words .c) (word % s .n) 0 ≡ 0 = ap (λ (i : ℕ). getD (c .words .c) i 0) (sym at) ∙ eqb-true _ 0 (sym (c .is-free .ensures) ∙ w .if-is-free .taken) in
             let step = position-free s (c .words .wanted) j word m (c .words .c) some (c .words-test .taken) (read .0) free in
             let value = w .unit .ensures ∙ ap (unit (s .p)) sign in
             ap₂ (λ (k : ℕ) (xs : List ℕ). filled s k (drop (j + 1) (stream m)) xs) (w .wanted-is) (w .c-is ∙ ap₂ (λ (i v : ℕ). set (c .words .c) i v) at value) ∙ step ∙ before .1
-        | else-c-position-eq0 w ↦
-            let taken = position-taken s (c .words .wanted) j word m (c .words .c) some (c .words-test .taken) (read .0) (λ e. w .if-c-position-eq0 .left (ap (λ (i : ℕ). getD (c .words .c) i 0) at ∙ e)) in
+        | else-is-free w ↦
+            let taken = position-taken s (c .words .wanted) j word m (c .words .c) some (c .words-test .taken) (read .0) (λ e. eqb-false _ 0 (sym (c .is-free .ensures) ∙ w .if-is-free .left) (ap (λ (i : ℕ). getD (c .words .c) i 0) at ∙ e)) in
             ap₂ (λ (k : ℕ) (xs : List ℕ). filled s k (drop (j + 1) (stream m)) xs) (w .wanted-is) (w .c-is) ∙ taken ∙ before .1
       ],
     )
