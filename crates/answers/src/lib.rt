@@ -1,4 +1,6 @@
 // What the lines of a scenario answer, and how it is told.
+#![tactic(auto)]
+
 mod answer;
 mod text;
 

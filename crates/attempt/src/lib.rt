@@ -1,4 +1,6 @@
 // One attempt at a signature: its nonces are drawn, committed to, and closed with a challenge.
+#![tactic(auto)]
+
 ghost use Rattle.std.specs.Prelude.{◌≡◌, ◌+◌, ◌-◌, ◌*◌, ◌<◌, ◌≤◌, ◌++◌, map, length, replicate, pos, OnOk};
 ghost use Rattle.params.specs.Params.{reach};
 ghost use Rattle.record.specs.Layout.{encode, size};

@@ -1,4 +1,6 @@
 // One call on a card, with the areas and the sources lent for it; and what that means for the card's whole life.
+#![tactic(auto)]
+
 ghost use Rattle.polys.specs.Area.{recombined};
 ghost use Rattle.std.specs.Prelude.{◌≡◌, [], OnOk};
 ghost use Rattle.refusal.specs.Tests.{first_hit};

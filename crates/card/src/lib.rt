@@ -1,4 +1,6 @@
 // The card: its key, in shares, and its counter. The key and the public polynomials stand in areas that each call is lent.
+#![tactic(auto)]
+
 ghost use Rattle.card.specs.Load.{LoadBy};
 ghost use Rattle.card.specs.Remask.{RemaskBy};
 ghost use Rattle.keys.specs.Load.{Loadable, load_tests, residues_of};

@@ -1,4 +1,6 @@
 // Cards and their records against what an independent model says of them.
+#![tactic(auto)]
+
 use std::io;
 
 fn main(rt: HostRuntime) -> io::Result<()> {

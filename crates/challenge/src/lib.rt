@@ -1,4 +1,6 @@
 // The hash that gives a signature's challenge.
+#![tactic(auto)]
+
 ghost use Rattle.std.specs.Prelude.{◌≡◌, ℕ, ◌+◌, ◌-◌, ◌*◌, ◌<◌, ◌≤◌, List, ◌++◌, length, replicate, ◌==◌};
 ghost use Rattle.challenge.specs.Challenge.{challenge, filled, message, place, stream, unit};
 ghost use Rattle.record.specs.Layout.{le4};

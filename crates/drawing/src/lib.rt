@@ -1,4 +1,6 @@
 // Nonces: the coefficients of y1 and y2, drawn in shares.
+#![tactic(auto)]
+
 ghost use Rattle.std.specs.Prelude.{◌≡◌, ◌+◌, ◌-◌, ◌*◌, ◌/◌, ◌%◌, ◌<◌, ◌≤◌, length, OnOk};
 ghost use Rattle.words.specs.Spending.{Spends};
 ghost use Rattle.shares.specs.Rule.{Within};

@@ -1,4 +1,6 @@
 // What programs in other languages may link, for the set that cards in the field use. Nothing is asked of a caller: what cannot be taken is refused.
+#![tactic(auto)]
+
 ghost use Rattle.std.specs.Prelude.{◌≡◌, ◌<◌, T, length};
 ghost use Rattle.exports.specs.Exports.{is_polynomial, product_left, product_status, last_counter, check_status};
 ghost use Rattle.params.specs.Params.{set_i};

@@ -1,4 +1,6 @@
 // A word source that is put together at run time: a tape of its own words or a generator, under any number of health checks.
+#![tactic(auto)]
+
 ghost use Rattle.std.specs.Prelude.{◌≡◌, ◌^◌, ◌<◌, ◌≤◌, [], vec_len, MatchResult};
 ghost use Rattle.feed.specs.Feed.{feed_few, feed_flow, reel_flow};
 ghost use Rattle.words.specs.Flow.{Drawn, from};

@@ -1,5 +1,7 @@
 // Masked arithmetic: what signing does to shared words and residues.
 // No function here brings two shares of one value together: each works share by share, or calls refresh, sec_and or open.
+#![tactic(auto)]
+
 pub mod adder;
 pub mod convert;
 pub mod modular;

@@ -1,4 +1,6 @@
 // The permutation Keccak-f[1600] of FIPS 202. A state is 25 lanes of 64 bits; lane (x, y) stands at index x + 5 * y.
+#![tactic(auto)]
+
 ghost use Rattle.std.specs.Prelude.{◌≡◌};
 ghost use Rattle.keccak.specs.Keccak.{theta, rho, pi, chi, round, keccak_f};
 ghost use Rattle.keccak.specs.Tables.{TablesFollow};

@@ -1,4 +1,6 @@
 // The permutation's steps on lanes are those of FIPS 202 on bits.
+#![tactic(auto)]
+
 ghost use Rattle.keccak_bits.specs.Bits.{StepsFollow};
 
 pub fn steps_follow() -> u8

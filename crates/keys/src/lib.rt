@@ -1,4 +1,6 @@
 // A secret key in shares, in an area that a caller lends: making the shares, remasking them, and the public key of the secret.
+#![tactic(auto)]
+
 mod public_key;
 mod remask;
 mod sharing;

@@ -1,4 +1,6 @@
 // A card's whole life, and what holds over it.
+#![tactic(auto)]
+
 ghost use Rattle.life.specs.Laws.{NewerLaw, PlacesLaw, AlikeLaw, NumbersLaw};
 
 mod call;

@@ -1,4 +1,6 @@
 // Share by share: operations that need no other share. They keep exclusive ors, so that they act on the word as on each share.
+#![tactic(auto)]
+
 ghost use Rattle.std.specs.Prelude.{◌≡◌, ◌-◌, ◌/◌, ◌%◌, ◌^◌, ◌<◌, bit_xor};
 ghost use Rattle.shares.specs.Groups.{word_of};
 ghost use Rattle.linear.specs.Words.{constant, shifted};

@@ -1,4 +1,6 @@
 // Parameter sets. Code above is generic over ParamSet and names no set.
+#![tactic(auto)]
+
 ghost use Rattle.std.specs.Prelude.{◌≡◌};
 ghost use Rattle.params.specs.Params.{Params, Sound, reach, set_s, set_i};
 ghost use Rattle.params.specs.Sets.{sound_s, sound_i};

@@ -1,4 +1,6 @@
 // Plain signing, as a definition: what a signing on shares must come to.
+#![tactic(auto)]
+
 ghost use Rattle.plain.specs.Laws.{CandidateBits, SigningAccounts, SigningsAlike};
 
 /// What holds of every signing: its nonce words are its attempts' words, its attempts are those that its outcome tells of,

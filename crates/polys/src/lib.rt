@@ -1,4 +1,6 @@
 // Polynomials in shares, in areas that a caller lends.
+#![tactic(auto)]
+
 pub mod column;
 pub mod linear;
 pub mod opening;

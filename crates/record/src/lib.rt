@@ -1,4 +1,6 @@
 // The record of a payment: its layout, a reader and a writer.
+#![tactic(auto)]
+
 ghost use Rattle.params.specs.Params.{reach};
 ghost use Rattle.record.specs.Layout.{size, kind};
 ghost use Rattle.std.specs.Prelude.{◌≡◌};

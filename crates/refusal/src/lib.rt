@@ -1,4 +1,6 @@
 // Why a call was refused: its number, and what it names.
+#![tactic(auto)]
+
 ghost use Rattle.refusal.specs.Told.{number_of, area_name, counts_text, fault_text, step_text, told};
 ghost use Rattle.std.specs.Prelude.{◌≡◌, Some};
 

@@ -1,4 +1,6 @@
 // The response in shares: the check that no coefficient lies too far from 0, and its opening.
+#![tactic(auto)]
+
 ghost use Rattle.std.specs.Prelude.{◌≡◌, ◌+◌, ◌*◌, ◌/◌, ◌^◌, ◌<◌, ◌≤◌, true, map, length, unsigned_abs};
 ghost use Rattle.polys.specs.Area.{recombined, shares_of};
 ghost use Rattle.record.specs.Reading.{all_near};

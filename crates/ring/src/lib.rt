@@ -1,4 +1,6 @@
 // Residues modulo p, and polynomials of n residues modulo xⁿ + 1, for any parameter set.
+#![tactic(auto)]
+
 ghost use Rattle.std.specs.Prelude.{◌≡◌, ◌+◌, ◌-◌, ◌*◌, ◌%◌, ◌^◌, ◌<◌, length, replicate, if◌then◌else◌, nat_le};
 ghost use Rattle.ring.specs.Ring.{negate, residue, centre, Residues, reduced, zip_with, plus, minus, last_of, shift_in, times_x, zeros, product};
 ghost use Rattle.ring.specs.Laws.{RingLaws, CentringLaws};

@@ -1,4 +1,6 @@
 // The worked examples follow from the definitions.
+#![tactic(auto)]
+
 ghost use Rattle.rows.specs.Table.{Table};
 
 pub fn rows_hold() -> u8

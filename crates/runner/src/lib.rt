@@ -1,4 +1,6 @@
 // A scenario from standard input, carried out line by line. What it prints is tested, not proved.
+#![tactic(auto)]
+
 use answers::{Answer, Told};
 use script::{Action, Command, Unread, parse};
 use std::alloc::{AllocError, Global};

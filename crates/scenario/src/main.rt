@@ -1,4 +1,6 @@
 // Carries out the scenario on standard input.
+#![tactic(auto)]
+
 use std::io;
 
 fn main(rt: HostRuntime) -> io::Result<()> {

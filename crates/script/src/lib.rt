@@ -1,4 +1,6 @@
 // The lines of a scenario: what a line's text asks for.
+#![tactic(auto)]
+
 mod command;
 mod decimal;
 mod hex;

@@ -1,4 +1,6 @@
 // The first place at which a test holds.
+#![tactic(auto)]
+
 ghost use Rattle.search.specs.First.{First, first-at};
 ghost use Rattle.std.specs.Prelude.{◌≡◌, leb, nat_le};
 

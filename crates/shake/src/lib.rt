@@ -1,4 +1,6 @@
 // SHAKE256 of FIPS 202: a message is absorbed in parts of any length, then output is squeezed out without end.
+#![tactic(auto)]
+
 ghost use Rattle.std.specs.Prelude.{◌<◌};
 
 mod absorb;

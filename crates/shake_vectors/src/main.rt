@@ -1,4 +1,6 @@
 // Runs SHAKE256 and prints what it gives in hex. expected.py makes the file `stdout` by another implementation.
+#![tactic(auto)]
+
 ghost use Rattle.std.specs.Prelude.{◌<◌};
 
 use shake::Shake256;

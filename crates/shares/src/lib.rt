@@ -1,5 +1,7 @@
 // Values in shares of a commutative group, and all that may bring two shares of one value together: refresh, sec_and and open.
 // Crates above work share by share, or call these.
+#![tactic(auto)]
+
 ghost use Rattle.std.specs.Prelude.{◌≡◌, ℕ, ◌*◌, ◌<◌, length};
 ghost use Rattle.words.specs.Spending.{Spends};
 ghost use Rattle.shares.specs.Rule.{Rule, Laws, Within, Masks, recombine};

@@ -1,4 +1,6 @@
 // A signing: attempts until one passes, or no try is left.
+#![tactic(auto)]
+
 ghost use Rattle.std.specs.Prelude.{◌≡◌, ◌*◌, ◌<◌, ◌≤◌, length};
 ghost use Rattle.record.specs.Layout.{size};
 ghost use Rattle.ring.specs.Laws.{Proper};

@@ -1,4 +1,6 @@
 // The steps of signing on one coefficient: a candidate for a nonce, and the check of a response.
+#![tactic(auto)]
+
 ghost use Rattle.std.specs.Prelude.{◌≡◌, ◌+◌, ◌*◌, ◌%◌, ◌^◌, ◌<◌, take, bit_and};
 ghost use Rattle.words.specs.Spending.{Spends};
 ghost use Rattle.shares.specs.Rule.{Within};

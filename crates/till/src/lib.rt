@@ -1,4 +1,6 @@
 // The till: it takes a card's records under the card's public key, each with a counter above the last.
+#![tactic(auto)]
+
 ghost use Rattle.std.specs.Prelude.{◌≡◌, true, is_ok};
 ghost use Rattle.till.specs.Verdict.{Accepts, above, last_after, verdict};
 

@@ -1,4 +1,6 @@
 // A till on records that were made elsewhere.
+#![tactic(auto)]
+
 use std::io;
 
 fn main(rt: HostRuntime) -> io::Result<()> {

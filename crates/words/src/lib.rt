@@ -1,4 +1,6 @@
 // Word sources. Each is a finite list of 32-bit words with a mark at its end; a later kind joins by meeting `Source` alone.
+#![tactic(auto)]
+
 ghost use Rattle.std.specs.Prelude.{◌≡◌, ℕ, ◌^◌, ◌≤◌, length};
 ghost use Rattle.words.specs.Flow.{Flow, Drawn};
 ghost use Rattle.words.specs.Marks.{mark_number};
