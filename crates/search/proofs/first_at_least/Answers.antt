@@ -4,7 +4,7 @@ use Rattle.search.proofs.first_at_least.Goals as goal
 use Rattle.search.specs.First.{First}
 
 pub words-preserved : goal.words-preserved
-words-preserved c = sym (miss-here 0 (leb c.args.limit) c.args.words.now c.words.i (omega arith) (sym c.at-least.ensures ∙ c.if-at-least.false)) ∙ c.words.invariant
+words-preserved c = sym (miss-here 0 (leb c.args.limit) c.args.words.now c.words.i (omega arith) (sym c.at_least.ensures ∙ c.if-at_least.false)) ∙ c.words.invariant
 
 pub returns-then-at-least : goal.returns-then-at-least
 returns-then-at-least c =
