@@ -12,7 +12,7 @@ use Rattle.record.specs.Writing.{content_of}
 use Rattle.challenge.specs.Challenge.{challenge}
 use Rattle.polys.specs.Area.{recombined}
 use Rattle.plain.specs.Costs.{cost}
-use Rattle.plain.specs.Run.{Outcome, masks-ended, closed}
+use Rattle.plain.specs.Run.{Outcome, masks_ended, closed}
 use Rattle.drawing.specs.Resume.{Subject, Stops}
 use Rattle.drawing.specs.Drawing.{Drawing}
 use Rattle.attempt.specs.declared.stopped.Stopped.{Stopped}
@@ -30,10 +30,10 @@ module _ (s : Params) (m : ℕ) (pos : 0 < m) (a area digest : List ℕ) (counte
   abbrev u : Subject
   u = subject_of s m a area digest counter
 
-  halted-in : (k spent : ℕ) (step : Step) (t : Stopped) (f₀ f₃ : Flow) → k ≡ number → (h : ShortOf s m k step spent t f₀ f₃) → Stops s m u [] [] (λ a. masks-ended (record { mark = h.mark; attempt = a; step = step })) n n' f f₃ → Halted s m u number t n n' f f₃
+  halted-in : (k spent : ℕ) (step : Step) (t : Stopped) (f₀ f₃ : Flow) → k ≡ number → (h : ShortOf s m k step spent t f₀ f₃) → Stops s m u [] [] (λ a. masks_ended (record { mark = h.mark; attempt = a; step = step })) n n' f f₃ → Halted s m u number t n n' f f₃
   halted-in k spent step t f₀ f₃ e h stops = record {
-    outcome = λ a. masks-ended (record { mark = h.mark; attempt = a; step = step });
-    is = ap outcome_of h.is ∙ ap (λ (k : ℕ). masks-ended (record { mark = h.mark; attempt = k; step = step })) e;
+    outcome = λ a. masks_ended (record { mark = h.mark; attempt = a; step = step });
+    is = ap outcome_of h.is ∙ ap (λ (k : ℕ). masks_ended (record { mark = h.mark; attempt = k; step = step })) e;
     told = ap attempt_of h.is ∙ e;
     stops = stops;
   }

@@ -10,7 +10,7 @@ use Rattle.refusal.specs.declared.fault.Step.TheVariants.{Commit, Check, Open}
 use Rattle.record.specs.Layout.{Content}
 use Rattle.plain.specs.Costs.{cost}
 use Rattle.plain.specs.Nonces.{whole}
-use Rattle.plain.specs.Run.{Setting, Run, Outcome, masks-ended, signed, all_failed, passed, rejected, unfinished, choose, closed, finish, passes, run, stop, after_rejected}
+use Rattle.plain.specs.Run.{Setting, Run, Outcome, masks_ended, signed, all_failed, passed, rejected, unfinished, choose, closed, finish, passes, run, stop, after_rejected}
 use Rattle.plain.proofs.Paths.{choose_not, finish-short-commit, finish-short-check, finish-short-open, finish-passed, finish-rejected, short-at}
 use Rattle.drawing.specs.Resume.{Subject, Supply, setting_of, resume, Fits, Stops}
 use Rattle.drawing.specs.Drawing.{Drawing}
@@ -40,7 +40,7 @@ module _ (s : Params) (m : ℕ) (pos : 0 < m) (u : Subject) (y : List ℕ) (n n'
   -- the run stops for want of masks in a step
   short-stops : (step : Step) (mk : Mark) (f₃ : Flow) → mk ≡ f.mark → Spent (length f.words) f f₃
       → ((x : Supply) (more a i₀ k₀ : ℕ) (p : Fits x m k₀ n f) → finish (e x more a i₀ k₀ p) more a d.words (i₀ + d.seen) n'.words r (k₀ + d.spent) (λ k. run (e x more a i₀ k₀ p) (more - 1) (a + 1) [] [] (i₀ + d.seen) k (whole m n'.words)) ≡ short-at (e x more a i₀ k₀ p) step a d.words (i₀ + d.seen) n'.words)
-      → Stops s m u [] [] (λ a. masks-ended (record { mark = mk; attempt = a; step = step })) n n' f f₃
+      → Stops s m u [] [] (λ a. masks_ended (record { mark = mk; attempt = a; step = step })) n n' f f₃
   short-stops step mk f₃ why taken ends = record {
     words = d.words;
     fate = unfinished;
@@ -53,11 +53,11 @@ module _ (s : Params) (m : ℕ) (pos : 0 < m) (u : Subject) (y : List ℕ) (n n'
     goes = λ x more a i₀ k₀ p.
         full x more a i₀ k₀ p
         ∙ ends x more a i₀ k₀ p
-        ∙ ap (λ (k : Mark). stop (e x more a i₀ k₀ p) (masks-ended (record { mark = k; attempt = a; step = step })) d.words unfinished (i₀ + d.seen) 0 x.mask_count n'.words) (p.mask_mark ∙ sym why)
-        ∙ ap (λ (k : ℕ). stop (e x more a i₀ k₀ p) (masks-ended (record { mark = mk; attempt = a; step = step })) d.words unfinished (i₀ + d.seen) 0 k n'.words) p.mask_count;
+        ∙ ap (λ (k : Mark). stop (e x more a i₀ k₀ p) (masks_ended (record { mark = k; attempt = a; step = step })) d.words unfinished (i₀ + d.seen) 0 x.mask_count n'.words) (p.mask_mark ∙ sym why)
+        ∙ ap (λ (k : ℕ). stop (e x more a i₀ k₀ p) (masks_ended (record { mark = mk; attempt = a; step = step })) d.words unfinished (i₀ + d.seen) 0 k n'.words) p.mask_count;
   }
 
-  pub commit-stops : (mk : Mark) (f₂ : Flow) → Short (0 + cost s m Commit) mk f₁ f₂ → Stops s m u [] [] (λ a. masks-ended (record { mark = mk; attempt = a; step = Commit })) n n' f f₂
+  pub commit-stops : (mk : Mark) (f₂ : Flow) → Short (0 + cost s m Commit) mk f₁ f₂ → Stops s m u [] [] (λ a. masks_ended (record { mark = mk; attempt = a; step = Commit })) n n' f f₂
   commit-stops mk f₂ t = short-stops Commit mk f₂ (t.why ∙ d.masks.mark) (spent_as (spent_then d.masks (all_taken t)) (sym (spent_length d.masks)))
       λ x more a i₀ k₀ p. finish-short-commit (e x more a i₀ k₀ p) a d.words (i₀ + d.seen) n'.words more r (k₀ + d.spent) _ (let c = count x more a i₀ k₀ p in let h = t.few in omega arith)
 
@@ -70,13 +70,13 @@ module _ (s : Params) (m : ℕ) (pos : 0 < m) (u : Subject) (y : List ℕ) (n n'
       count₂ : x.mask_count ≡ k₀ + d.spent + cost s m Commit + length f₂.words
       count₂ = let c = count x more a i₀ k₀ p in let l = spent_length sc in omega arith
 
-    pub check-stops : (mk : Mark) (f₃ : Flow) → Short (0 + cost s m Check) mk f₂ f₃ → Stops s m u [] [] (λ a. masks-ended (record { mark = mk; attempt = a; step = Check })) n n' f f₃
+    pub check-stops : (mk : Mark) (f₃ : Flow) → Short (0 + cost s m Check) mk f₂ f₃ → Stops s m u [] [] (λ a. masks_ended (record { mark = mk; attempt = a; step = Check })) n n' f f₃
     check-stops mk f₃ t =
         let all = spent_then d.masks sc in
         short-stops Check mk f₃ (t.why ∙ all.mark) (spent_as (spent_then all (all_taken t)) (sym (spent_length all)))
         λ x more a i₀ k₀ p. finish-short-check (e x more a i₀ k₀ p) a d.words (i₀ + d.seen) n'.words more r (k₀ + d.spent) _ (paid x more a i₀ k₀ p) (let c = count₂ x more a i₀ k₀ p in let h = t.few in omega arith)
 
-    pub open-stops : (mk : Mark) (f₃ : Flow) → passes s r ≡ true → cost s m Check ≤ length f₂.words → Short (cost s m Check + cost s m Open) mk f₂ f₃ → Stops s m u [] [] (λ a. masks-ended (record { mark = mk; attempt = a; step = Open })) n n' f f₃
+    pub open-stops : (mk : Mark) (f₃ : Flow) → passes s r ≡ true → cost s m Check ≤ length f₂.words → Short (cost s m Check + cost s m Open) mk f₂ f₃ → Stops s m u [] [] (λ a. masks_ended (record { mark = mk; attempt = a; step = Open })) n n' f f₃
     open-stops mk f₃ ok checked t =
         let all = spent_then d.masks sc in
         short-stops Open mk f₃ (t.why ∙ all.mark) (spent_as (spent_then all (all_taken t)) (sym (spent_length all)))

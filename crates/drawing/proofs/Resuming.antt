@@ -10,7 +10,7 @@ use Rattle.refusal.specs.declared.fault.Step.TheVariants.{Candidate, Conversion}
 use Rattle.shares.specs.Refresh.{pairs}
 use Rattle.plain.specs.Nonces.{limit, whole, cut_short, candidate, coefficient}
 use Rattle.plain.specs.Costs.{cost, mask_words}
-use Rattle.plain.specs.Run.{Setting, Run, Outcome, Fate, nonces-ended, masks-ended, unfinished, at, choose, closed, finish, run, stop}
+use Rattle.plain.specs.Run.{Setting, Run, Outcome, Fate, nonces-ended, masks_ended, unfinished, at, choose, closed, finish, run, stop}
 use Rattle.plain.proofs.Groups.{flat, whole-and-cut, whole-few, cut_all, whole-more, cut-more}
 use Rattle.plain.proofs.Paths.{choose_is, charge-paid, charge-short, consider-short, consider-refused, consider-accepted}
 use Rattle.drawing.specs.Resume.{Subject, Supply, setting_of, resume, Fits, Leads, Stops}
@@ -128,7 +128,7 @@ module _ (s : Params) (m : ℕ) (pos : 0 < m) (u : Subject) where
           ∙ sym (wanting x more a (ws ++ group) y (i₀ + 1) (k₀ + 17 * pairs m) n'.words wants);
     }
 
-    pub short-of-candidate : {e : Mark} {f' : Flow} → Short (17 * pairs m) e f f' → Stops s m u ws y (λ a. masks-ended (record { mark = e; attempt = a; step = Candidate (at s (length y)) })) n n' f f'
+    pub short-of-candidate : {e : Mark} {f' : Flow} → Short (17 * pairs m) e f f' → Stops s m u ws y (λ a. masks_ended (record { mark = e; attempt = a; step = Candidate (at s (length y)) })) n n' f f'
     unfolding cost
     short-of-candidate {e = e} sf = record {
       words = ws ++ group;
@@ -143,7 +143,7 @@ module _ (s : Params) (m : ℕ) (pos : 0 < m) (u : Subject) where
           let few = sf.few in
           let count = p.mask_count in
           let short : x.mask_count < k₀ + 17 * pairs m = omega arith in
-          let last : (k : Mark) (j : ℕ) (l : List ℕ) → Run = λ k j l. stop (E x more a i₀ k₀ p) (masks-ended (record { mark = k; attempt = a; step = Candidate (at s (length y)) })) (ws ++ group) unfinished (i₀ + 1) 0 j l in
+          let last : (k : Mark) (j : ℕ) (l : List ℕ) → Run = λ k j l. stop (E x more a i₀ k₀ p) (masks_ended (record { mark = k; attempt = a; step = Candidate (at s (length y)) })) (ws ++ group) unfinished (i₀ + 1) 0 j l in
           here x more a i₀ k₀ p
           ∙ consider-short (E x more a i₀ k₀ p) a (ws ++ group) (i₀ + 1) (left x more a i₀ k₀ p) (length y) (candidate s group) k₀ _ _ short
           ∙ ap (λ (k : Mark). last k x.mask_count (left x more a i₀ k₀ p)) (p.mask_mark ∙ sym sf.why)
@@ -181,7 +181,7 @@ module _ (s : Params) (m : ℕ) (pos : 0 < m) (u : Subject) where
             ∙ ap (λ (k : ℕ). go (length y') k n'.words) spent;
       }
 
-      pub short-of-conversion : {e : Mark} {f' : Flow} → Short (mask_words s * (m - 1) + (m + 1) * (33 * pairs m)) e f₁ f' → Stops s m u ws y (λ a. masks-ended (record { mark = e; attempt = a; step = Conversion (at s (length y)) })) n n' f f'
+      pub short-of-conversion : {e : Mark} {f' : Flow} → Short (mask_words s * (m - 1) + (m + 1) * (33 * pairs m)) e f₁ f' → Stops s m u ws y (λ a. masks_ended (record { mark = e; attempt = a; step = Conversion (at s (length y)) })) n n' f f'
       unfolding cost
       short-of-conversion {e = e} sc = record {
         words = ws ++ group;
@@ -200,7 +200,7 @@ module _ (s : Params) (m : ℕ) (pos : 0 < m) (u : Subject) where
             let paid : k₀ + 17 * pairs m ≤ x.mask_count = omega arith in
             let short : x.mask_count < k₀ + 17 * pairs m + conversion = omega arith in
             let E = E x more a i₀ k₀ p in
-            let last : (k : Mark) (j : ℕ) (l : List ℕ) → Run = λ k j l. stop E (masks-ended (record { mark = k; attempt = a; step = Conversion (at s (length y)) })) (ws ++ group) unfinished (i₀ + 1) 0 j l in
+            let last : (k : Mark) (j : ℕ) (l : List ℕ) → Run = λ k j l. stop E (masks_ended (record { mark = k; attempt = a; step = Conversion (at s (length y)) })) (ws ++ group) unfinished (i₀ + 1) 0 j l in
             here x more a i₀ k₀ p
             ∙ consider-accepted E a (ws ++ group) (i₀ + 1) (left x more a i₀ k₀ p) (length y) (candidate s group) k₀ _ _ paid below
             ∙ charge-short E a (ws ++ group) (i₀ + 1) (left x more a i₀ k₀ p) (Conversion (at s (length y))) (k₀ + 17 * pairs m) _ short

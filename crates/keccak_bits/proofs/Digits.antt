@@ -7,11 +7,11 @@ use Rattle.std.proofs.lemmas.Bool.{cases_lt, cases_eq}
 use Rattle.keccak.specs.Keccak.{lane, grid, rotl, not64, parity}
 use Rattle.keccak_bits.specs.Bits.{bit, C}
 
-pub bit-xor : (a b z : ℕ) → bit (bit_xor a b) z ≡ bit_xor (bit a z) (bit b z)
-bit-xor a b z = ap (λ (n : ℕ). n % 2) (xor_shr a b z) ∙ xor_mod (a / 2 ^ z) (b / 2 ^ z) 1
+pub bit_xor : (a b z : ℕ) → bit (bit_xor a b) z ≡ bit_xor (bit a z) (bit b z)
+bit_xor a b z = ap (λ (n : ℕ). n % 2) (xor_shr a b z) ∙ xor_mod (a / 2 ^ z) (b / 2 ^ z) 1
 
-pub bit-and : (a b z : ℕ) → bit (bit_and a b) z ≡ bit_and (bit a z) (bit b z)
-bit-and a b z = ap (λ (n : ℕ). n % 2) (and_shr a b z) ∙ and_mod (a / 2 ^ z) (b / 2 ^ z) 1
+pub bit_and : (a b z : ℕ) → bit (bit_and a b) z ≡ bit_and (bit a z) (bit b z)
+bit_and a b z = ap (λ (n : ℕ). n % 2) (and_shr a b z) ∙ and_mod (a / 2 ^ z) (b / 2 ^ z) 1
 
 bit-or : (a b z : ℕ) → bit (bit_or a b) z ≡ bit_or (bit a z) (bit b z)
 bit-or a b z = ap (λ (n : ℕ). n % 2) (or_shr a b z) ∙ or_mod (a / 2 ^ z) (b / 2 ^ z) 1
@@ -83,7 +83,7 @@ bit_not n z f l =
     let m : bit_and n (2 ^ 64 - 1) ≡ n % 2 ^ 64 = and_mask n 64 in
     let s = xor_add_and n (2 ^ 64 - 1) in
     let e : not64 n ≡ bit_xor n (2 ^ 64 - 1) = omega arith in
-    ap (λ (v : ℕ). bit v z) e ∙ bit-xor n (2 ^ 64 - 1) z ∙ ap (bit_xor (bit n z)) (bit_ones z l)
+    ap (λ (v : ℕ). bit v z) e ∙ bit_xor n (2 ^ 64 - 1) z ∙ ap (bit_xor (bit n z)) (bit_ones z l)
 
 pub below5 : (P : ℕ → Type 0) → P 0 → P 1 → P 2 → P 3 → P 4 → (x : ℕ) → x < 5 → P x
 below5 P a b c d e zero h = a
@@ -105,4 +105,4 @@ grid_at f x y h k =
     x h y k
 
 pub bit_parity : (s : List ℕ) (x z : ℕ) → bit (parity s x) z ≡ C s x z
-bit_parity s x z = simp bit-xor
+bit_parity s x z = simp bit_xor

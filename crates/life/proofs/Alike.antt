@@ -7,7 +7,7 @@ use Rattle.refusal.specs.declared.Refusal.TheVariants.{MasksEnded}
 use Rattle.refusal.specs.declared.fault.Counts.{Counts}
 use Rattle.refusal.specs.Tests.{first_hit}
 use Rattle.plain.specs.Nonces.{candidates}
-use Rattle.plain.specs.Run.{Outcome, signed, nonces-ended, masks-ended, all_failed, Run}
+use Rattle.plain.specs.Run.{Outcome, signed, nonces-ended, masks_ended, all_failed, Run}
 use Rattle.plain.specs.Laws.{short_of_masks, Agree}
 use Rattle.plain.proofs.Twins.{signs-alike}
 use Rattle.life.specs.declared.call.Call.{Call}
@@ -21,7 +21,7 @@ use Rattle.life.specs.Laws.{Told, of_sign, of_report, told, refusal_in, for_mask
 masks_end : (o : Outcome) (counts : Counts) (bytes : List ℕ) → for_masks (refusal_in (of_sign (answer_of o counts) bytes)) ≡ short_of_masks o
 masks_end (signed r) counts bytes = refl
 masks_end (nonces-ended f) counts bytes = refl
-masks_end (masks-ended f) counts bytes = refl
+masks_end (masks_ended f) counts bytes = refl
 masks_end all_failed counts bytes = refl
 
 module _ (made : MadeCard) (m : ℕ) (some : 0 < made.shares) (some' : 0 < m) where

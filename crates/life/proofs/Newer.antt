@@ -26,7 +26,7 @@ use Rattle.life.specs.Shown.{last-shown}
 use Rattle.life.specs.Laws.{SoundCard, Digested, till_key, payment_of, JudgedByCounter, NewerLaw}
 use Rattle.life.proofs.Tills.{down, up}
 use Rattle.life.proofs.Turns.{Genuine, turn}
-use Rattle.life.proofs.Verify.{public_key, answers, reads-back}
+use Rattle.life.proofs.Verify.{public_key, answers, reads_back}
 
 module _ (made : MadeCard) (card : SoundCard made) where
   abbrev s : Params
@@ -52,7 +52,7 @@ module _ (made : MadeCard) (card : SoundCard made) where
     read =
         let R : Content → Type 0 = λ (u : Content). (first_hit (record_tests s (encode s u)) ≡ None) × (decode s (encode s u) ≡ u) in
         let ok : passes s (closed s made.key digest counter g.y) ≡ true = subst (λ (u : Content). passes s u ≡ true) g.is g.ok in
-        subst R (sym g.is) (reads-back s card.sound made.key card.a card.s1 card.s2 digest counter g.y g.long g.small bytes-long ok)
+        subst R (sym g.is) (reads_back s card.sound made.key card.a card.s1 card.s2 digest counter g.y g.long g.small bytes-long ok)
 
     expects : expected made.set (till_key made) r ≡ r.c
     expects = subst (λ (u : Content). expected s key u ≡ u.c) (sym g.is) (answers s card.sound made.key card.a card.s1 card.s2 digest counter g.y g.long)

@@ -124,9 +124,9 @@ module _ (s : Params) (sound : Sound s) (key : Key) (pa : Proper s.n s.p key.a) 
         let of-z : commitment p key.a t (take n z) (drop n z) c ≡ commitment p key.a t z1 z2 c = ap₂ (λ (u v : List ℕ). commitment p key.a t u v c) first second in
         ap (λ (r : List ℕ). challenge s r digest counter) (of-key ∙ of-z ∙ verification c y1 y2 (challenge_proper s sound _ digest counter) y1-long y2-long)
 
-    pub reads-back : counter < 65536 → length digest ≡ 32 → passes s (closed s key digest counter y) ≡ true →
+    pub reads_back : counter < 65536 → length digest ≡ 32 → passes s (closed s key digest counter y) ≡ true →
         (first_hit (record_tests s (encode s (closed s key digest counter y))) ≡ None) × (decode s (encode s (closed s key digest counter y)) ≡ closed s key digest counter y)
     unfolding closed
-    reads-back small bytes ok =
+    reads_back small bytes ok =
         read_back s sound (closed s key digest counter y) small bytes (length-map (z1 ++ z2) (centre p) ∙ length-append z1 z2 ∙ omega (arith, z1-long, z2-long)) c-long
         (record { near = near s (map (centre p) (z1 ++ z2)) ok; ternary = challenge_ternary s _ digest counter })

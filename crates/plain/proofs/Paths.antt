@@ -6,7 +6,7 @@ use Rattle.refusal.specs.declared.fault.Step.TheVariants.{Candidate, Conversion,
 use Rattle.record.specs.Layout.{Content}
 use Rattle.plain.specs.Nonces.{limit}
 use Rattle.plain.specs.Costs.{cost}
-use Rattle.plain.specs.Run.{Setting, Run, signed, masks-ended, all_failed, passed, rejected, unfinished, at, stop, charge, choose, consider, finish, after_rejected, passes}
+use Rattle.plain.specs.Run.{Setting, Run, signed, masks_ended, all_failed, passed, rejected, unfinished, at, stop, charge, choose, consider, finish, after_rejected, passes}
 
 cond_is : {A : Type 0} (b : Bool) (x y : A) → b ≡ true → cond b x y ≡ x
 cond_is b x y e = ap (λ (t : Bool). cond t x y) e
@@ -29,7 +29,7 @@ module _ (e : Setting) where
 
   -- the end for want of masks in a step
   abbrev pub short-at : Step → (a : ℕ) (ws : List ℕ) (seen : ℕ) (left : List ℕ) → Run
-  short-at step a ws seen left = stop e (masks-ended (record { mark = e.mask_mark; attempt = a; step = step })) ws unfinished seen 0 e.mask_count left
+  short-at step a ws seen left = stop e (masks_ended (record { mark = e.mask_mark; attempt = a; step = step })) ws unfinished seen 0 e.mask_count left
 
   module _ (a : ℕ) (ws : List ℕ) (seen : ℕ) (left : List ℕ) where
     pub charge-paid : (step : Step) (spent : ℕ) (next : ℕ → Run) → spent + price step ≤ e.mask_count → charge e step a ws seen left spent next ≡ next (spent + price step)

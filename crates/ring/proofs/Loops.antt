@@ -5,7 +5,7 @@ use Rattle.std.proofs.lemmas.List.{take_more_set, drop_more, drop-set-lt, drop_a
 use Rattle.std.proofs.lemmas.Nat.{mul-lt}
 use Rattle.ring.specs.Ring.{Residues, reduced, zip_with, plus, scale, last_of, shift_in, times_x, zeros, product}
 use Rattle.ring.proofs.Polynomials.{cons, length_zip, get_d_zip}
-use Rattle.ring.proofs.Algebra.{product-times-x, length-product, reduced-product}
+use Rattle.ring.proofs.Algebra.{product-times_x, length-product, reduced-product}
 
 -- f of xs and ys is written over xs: the places below i hold it, and the others are as they were
 abbrev pub Zipping : (ℕ → ℕ → ℕ) → List ℕ → List ℕ → List ℕ → ℕ → Type 0
@@ -61,7 +61,7 @@ add_step p k (a ∷ acc) (x ∷ b) (t ∷ ts) =
 -- one turn of the long product
 pub product_more : (p k : ℕ) (acc b more : List ℕ) → plus p (zip_with (λ s c. s + k * c) acc b) (product p more (times_x p b)) ≡ plus p acc (product p (k ∷ more) b)
 product_more p k acc b more =
-    ap (plus p (zip_with (λ s c. s + k * c) acc b)) (product-times-x p more b) ∙ add_step p k acc b (times_x p (product p more b))
+    ap (plus p (zip_with (λ s c. s + k * c) acc b)) (product-times_x p more b) ∙ add_step p k acc b (times_x p (product p more b))
 
 zeros_plus : (p : ℕ) (xs ts : List ℕ) → length xs ≡ length ts → plus p (zeros xs) ts ≡ reduced p ts
 zeros_plus p [] [] e = refl

@@ -100,20 +100,20 @@ module _ (p : ℕ) where
   plus-minus (x ∷ xs) [] h e = absurd (omega arith)
   plus-minus (x ∷ xs) (y ∷ ys) h e = ap₂ cons (negate_restores p x y h) (plus-minus xs ys h (omega arith))
 
-  pub length-shift-in : (x : ℕ) (xs : List ℕ) → length (shift_in x xs) ≡ length xs
-  length-shift-in x [] = refl
-  length-shift-in x (y ∷ ys) = ap suc (length-shift-in y ys)
+  pub length-shift_in : (x : ℕ) (xs : List ℕ) → length (shift_in x xs) ≡ length xs
+  length-shift_in x [] = refl
+  length-shift_in x (y ∷ ys) = ap suc (length-shift_in y ys)
 
-  pub length-times-x : (xs : List ℕ) → length (times_x p xs) ≡ length xs
-  length-times-x [] = refl
-  length-times-x (x ∷ xs) = ap suc (length-shift-in x xs)
+  pub length-times_x : (xs : List ℕ) → length (times_x p xs) ≡ length xs
+  length-times_x [] = refl
+  length-times_x (x ∷ xs) = ap suc (length-shift_in x xs)
 
-  shift-in-residues : (x : ℕ) (xs : List ℕ) → Residues p (x ∷ xs) → Residues p (shift_in x xs)
-  shift-in-residues x [] b j h = absurd (omega arith)
-  shift-in-residues x (y ∷ ys) b zero h = b zero (omega arith)
-  shift-in-residues x (y ∷ ys) b (suc j) h = shift-in-residues y ys (residues_tail p x (y ∷ ys) b) j (omega arith)
+  shift_in-residues : (x : ℕ) (xs : List ℕ) → Residues p (x ∷ xs) → Residues p (shift_in x xs)
+  shift_in-residues x [] b j h = absurd (omega arith)
+  shift_in-residues x (y ∷ ys) b zero h = b zero (omega arith)
+  shift_in-residues x (y ∷ ys) b (suc j) h = shift_in-residues y ys (residues_tail p x (y ∷ ys) b) j (omega arith)
 
-  pub times-x-residues : (xs : List ℕ) → 0 < p → Residues p xs → Residues p (times_x p xs)
-  times-x-residues [] h b j l = b j l
-  times-x-residues (x ∷ xs) h b zero l = mod-lt _ h
-  times-x-residues (x ∷ xs) h b (suc j) l = shift-in-residues x xs b j (omega arith)
+  pub times_x-residues : (xs : List ℕ) → 0 < p → Residues p xs → Residues p (times_x p xs)
+  times_x-residues [] h b j l = b j l
+  times_x-residues (x ∷ xs) h b zero l = mod-lt _ h
+  times_x-residues (x ∷ xs) h b (suc j) l = shift_in-residues x xs b j (omega arith)

@@ -33,8 +33,8 @@ returns-then-passed g c =
     let ec : c.challenge.new.c ≡ challenge s (commitment_to s c.args.a.now y) c.args.digest.now c.args.counter = c.challenge.ensures.is ∙ ap (λ (r : List ℕ). challenge s r c.args.digest.now c.args.counter) k.2 in
     let q : ClosesBy s g.row.M c.in-ok-committed.committed.number (Ok true) (answer_to s (recombined s g.row.M c.args.key.now) c.challenge.new.c y) c.close.new.opened (g.W.Source.flow c.commit.new.masks) (g.W.Source.flow c.close.new.masks) =
     subst (λ (b : Bool). ClosesBy s g.row.M c.in-ok-committed.committed.number (Ok b) (answer_to s (recombined s g.row.M c.args.key.now) c.challenge.new.c y) c.close.new.opened (g.W.Source.flow c.commit.new.masks) (g.W.Source.flow c.close.new.masks)) c.if-passed.true c.in-ok-passed.ensures.by in
-    subst (λ (b : Bool). Attempts s g.row.M (subject_of s g.row.M c.args.a.now c.args.key.now c.args.digest.now c.args.counter) c.args.number (Ok b) c.args.record.now c.write-record.new.out (g.N.Source.flow c.args.nonces.now) (g.N.Source.flow c.draw.new.nonces) (g.W.Source.flow c.args.masks.now) (g.W.Source.flow c.close.new.masks)) (sym c.if-passed.true)
-    (record { by = close_passed s g.row.M c.requires.some c.args.a.now c.args.key.now c.args.digest.now c.args.counter c.args.number y _ _ _ _ d.1 (recombined-long s g.row.M c.draw.new.y) _ k.1 c.challenge.new.c ec c.close.new.opened c.write-record.new.out _ q.0 q.1 q.2 c.write-record.ensures })
+    subst (λ (b : Bool). Attempts s g.row.M (subject_of s g.row.M c.args.a.now c.args.key.now c.args.digest.now c.args.counter) c.args.number (Ok b) c.args.record.now c.write_record.new.out (g.N.Source.flow c.args.nonces.now) (g.N.Source.flow c.draw.new.nonces) (g.W.Source.flow c.args.masks.now) (g.W.Source.flow c.close.new.masks)) (sym c.if-passed.true)
+    (record { by = close_passed s g.row.M c.requires.some c.args.a.now c.args.key.now c.args.digest.now c.args.counter c.args.number y _ _ _ _ d.1 (recombined-long s g.row.M c.draw.new.y) _ k.1 c.challenge.new.c ec c.close.new.opened c.write_record.new.out _ q.0 q.1 q.2 c.write_record.ensures })
 
 pub returns-else-passed : goal.returns-else-passed
 returns-else-passed g c =

@@ -9,7 +9,7 @@ pub residues-preserved : goal.residues-preserved
 residues-preserved c m a =
     let r = c.args.r.now in
     let i = c.residues.x-index in
-    let bytes = c.to-le-bytes.ensures in
+    let bytes = c.to_le_bytes.ensures in
     let more = flat_map_more le4 m (take i r) (get_or r i 0) in
     let grown = ap (λ (xs : List ℕ). m ++ flat_map le4 xs) (take_more r i 0 (omega arith)) in
     let P : List ℕ → Type 0 = λ bs. Absorbing bs c.absorb.new.self in

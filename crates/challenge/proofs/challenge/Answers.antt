@@ -16,11 +16,11 @@ returns g c =
     let front = flat_map le4 c.args.r.now in
     let digest = c.args.digest.now in
     let P : List ℕ → Type 0 = λ m. Absorbing m c.absorb-2.new.self in
-    let whole : (front ++ digest) ++ c.to-le-bytes.result ≡ message c.args.r.now digest c.args.counter =
-    ap (λ (bs : List ℕ). (front ++ digest) ++ bs) c.to-le-bytes.ensures ∙ append_assoc front digest (le2 c.args.counter) in
-    let hashed = subst P whole (c.absorb-2.ensures _ (c.absorb.ensures _ (c.absorb-residues.ensures [] c.new-hasher.ensures))) in
-    let is : c.fill-from.new.c ≡ challenge s c.args.r.now digest c.args.counter =
-    c.fill-from.ensures _ (c.finish.ensures _ hashed)
+    let whole : (front ++ digest) ++ c.to_le_bytes.result ≡ message c.args.r.now digest c.args.counter =
+    ap (λ (bs : List ℕ). (front ++ digest) ++ bs) c.to_le_bytes.ensures ∙ append_assoc front digest (le2 c.args.counter) in
+    let hashed = subst P whole (c.absorb-2.ensures _ (c.absorb.ensures _ (c.absorb_residues.ensures [] c.new-hasher.ensures))) in
+    let is : c.fill_from.new.c ≡ challenge s c.args.r.now digest c.args.counter =
+    c.fill_from.ensures _ (c.finish.ensures _ hashed)
     ∙ ap (filled s s.alpha (stream (message c.args.r.now digest c.args.counter))) (c.fill.ensures.after (λ y e. e) ∙ ap (λ (k : ℕ). replicate k 0) c.requires) in
     record {
       is = is;

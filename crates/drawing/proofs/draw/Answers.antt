@@ -29,7 +29,7 @@ candidates-preserved g c =
     let end = c.coefficients-i-end.ensures in
     let wants : length (values s g.row.M i c.coefficients.y) < 2 * s.n = omega (arith, c.coefficients-test.true) in
     let d = c.in-Ok.ensures.by in
-    let above = judged-none s g.row.M _ _ (g.N.Source.flow c.candidates.nonces).words c.in-Ok.found c.candidate-bits-bits.ensures.is c.candidate-limit-limit.ensures d.2 c.in-None.is in
+    let above = judged-none s g.row.M _ _ (g.N.Source.flow c.candidates.nonces).words c.in-Ok.found c.candidate_bits-bits.ensures.is c.candidate_limit-limit.ensures d.2 c.in-None.is in
     λ u n f h. drawing-refused s g.row.M c.requires.some u wants (c.candidates.invariant u n f h) d.0 d.1 above
 
 pub scatter-requires : goal.scatter-requires
@@ -53,7 +53,7 @@ coefficients-preserved g c =
     let wants : length (values s g.row.M i y) < 2 * s.n = omega (arith, c.coefficients-test.true) in
     let d = c.in-Ok.ensures.by in
     let ws = (g.N.Source.flow c.candidates.nonces).words in
-    let x = judged-some s g.row.M _ _ ws c.in-Ok.found c.candidate-bits-bits.ensures.is c.candidate-limit-limit.ensures d.2 c.in-Some.x c.in-Some.is in
+    let x = judged-some s g.row.M _ _ ws c.in-Ok.found c.candidate_bits-bits.ensures.is c.candidate_limit-limit.ensures d.2 c.in-Some.x c.in-Some.is in
     let v = c.in-Ok-convert.ensures.by in
     let p = residue_rule s.p in
     let written : shares_of s.n g.row.M y' i ≡ c.in-Ok-convert.shares = ap (λ (n : ℕ). shares_of n g.row.M y' i) (sym c.degree-n.ensures) ∙ c.scatter.ensures.written in
@@ -76,7 +76,7 @@ returns-in-Err g c =
     let end = c.coefficients-i-end.ensures in
     let wants : length y < 2 * s.n = omega (arith, c.coefficients-test.true) in
     record {
-      drawn = λ u. record { by = tried_stops s g.row.M c.candidate-bits-bits.result c.candidate-limit-limit.result c.requires.some u y c.in-Err.ended c.at-at.result _ _ _ _ _ _ wants (c.at-at.ensures ∙ ap (at s) (sym long)) (c.candidates.invariant u _ _ (c.coefficients.invariant.0 u)) c.in-Err.ensures.by };
+      drawn = λ u. record { by = tried_stops s g.row.M c.candidate_bits-bits.result c.candidate_limit-limit.result c.requires.some u y c.in-Err.ended c.at-at.result _ _ _ _ _ _ wants (c.at-at.ensures ∙ ap (at s) (sym long)) (c.candidates.invariant u _ _ (c.coefficients.invariant.0 u)) c.in-Err.ensures.by };
       residues = tt;
     }
 
@@ -90,7 +90,7 @@ returns-in-Err-convert g c =
     let wants : length y < 2 * s.n = omega (arith, c.coefficients-test.true) in
     let d = c.in-Ok.ensures.by in
     let ws = (g.N.Source.flow c.candidates.nonces).words in
-    let x = judged-some s g.row.M _ _ ws c.in-Ok.found c.candidate-bits-bits.ensures.is c.candidate-limit-limit.ensures d.2 c.in-Some.x c.in-Some.is in
+    let x = judged-some s g.row.M _ _ ws c.in-Ok.found c.candidate_bits-bits.ensures.is c.candidate_limit-limit.ensures d.2 c.in-Some.x c.in-Some.is in
     let n₀ = g.N.Source.flow c.args.nonces.now in
     let n₂ = g.N.Source.flow c.candidate.new.nonces in
     let f₀ = g.W.Source.flow c.args.masks.now in

@@ -8,4 +8,4 @@ of_steps rc a b c d p q r = ap (iota rc) (r ∙ ap chi (q ∙ ap (λ (s : List �
 
 pub returns : goal.returns
 unfolding iota
-returns c = of_steps c.args.constant c.args.a.now _ _ _ c.theta-step-mixed.ensures c.rho-pi-steps-moved.ensures c.chi-step-next.ensures
+returns c = of_steps c.args.constant c.args.a.now _ _ _ c.theta_step-mixed.ensures c.rho_pi_steps-moved.ensures c.chi_step-next.ensures

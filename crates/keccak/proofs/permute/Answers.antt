@@ -18,7 +18,7 @@ loop-i-init c = refl
 pub loop-i-preserved : goal.loop-i-preserved
 loop-i-preserved c =
     let more : c.loop-i.i < 24 = omega arith in
-    one_more round_constants c.loop-i.i c.loop-i.a c.one-round.result more c.one-round.ensures ∙ c.loop-i.invariant
+    one_more round_constants c.loop-i.i c.loop-i.a c.one_round.result more c.one_round.ensures ∙ c.loop-i.invariant
 
 pub returns : goal.returns
 unfolding keccak_f

@@ -11,8 +11,8 @@ use Rattle.polys.proofs.Places.{polynomial-inside}
 use Rattle.response.proofs.Nearness.{near_value, centred_values}
 use Rattle.response.proofs.open_response.Goals as goal
 
-pub open-centred-requires : goal.open-centred-requires
-open-centred-requires g c =
+pub open_centred-requires : goal.open_centred-requires
+open_centred-requires g c =
     let s = g.S.ParamSet.params in
     let least = g.S.ParamSet.sound.n_least in
     let small = g.S.ParamSet.sound.reach_small in

@@ -19,8 +19,8 @@ coefficient-shares-requires g c =
     let inside = polynomial-inside s.n g.row.M (omega arith) 2 c.coefficients.c c.args.z.now (omega arith) c.requires.sized in
     (search rules, (c.requires.most, (inside, c.requires.residues)))
 
-pub check-coefficient-requires : goal.check-coefficient-requires
-check-coefficient-requires g c =
+pub check_coefficient-requires : goal.check_coefficient-requires
+check_coefficient-requires g c =
     let s = g.S.ParamSet.params in
     let p = c.of-ring.ensures in
     let r = c.reach.ensures in

@@ -6,9 +6,9 @@ use Rattle.search.specs.First.{First}
 pub words-preserved : goal.words-preserved
 words-preserved c = sym (miss-here 0 (leb c.args.limit) c.args.words.now c.words.i (omega arith) (sym c.at_least.ensures ∙ c.if-at_least.false)) ∙ c.words.invariant
 
-pub returns-then-at-least : goal.returns-then-at-least
-returns-then-at-least c =
-    let value = sym (hit-here 0 (leb c.args.limit) c.args.words.now c.words.i (omega arith) (sym c.at-least.ensures ∙ c.if-at-least.true)) ∙ c.words.invariant in
+pub returns-then-at_least : goal.returns-then-at_least
+returns-then-at_least c =
+    let value = sym (hit-here 0 (leb c.args.limit) c.args.words.now c.words.i (omega arith) (sym c.at_least.ensures ∙ c.if-at_least.true)) ∙ c.words.invariant in
     record { value = value; first = subst (First 0 (leb c.args.limit) c.args.words.now) (sym value) (first-is 0 (leb c.args.limit) c.args.words.now) }
 
 pub returns : goal.returns

@@ -15,8 +15,8 @@ cost m g = add-mul (33 * m) 16 g ∙ ap (λ (n : ℕ). n + 16 * g) (ap (λ (n : 
 moved : (p k : ℕ) (zs : List ℕ) (v : ℕ) → 1 < p → 0 < length zs → v ≡ (get_or zs 0 0 + k) % p → residue_of p (set zs 0 v) ≡ (residue_of p zs + k) % p
 moved p k zs v h l e = ap (λ (y : ℕ). residue_of p (set zs 0 y)) e ∙ recombine-joined (residue_rule p) (residue_laws p h) zs 0 k l
 
-pub sec-below-requires : goal.sec-below-requires
-sec-below-requires g c =
+pub sec_below-requires : goal.sec_below-requires
+sec_below-requires g c =
     let p = c.args.ring.p in
     let hz : length c.args.z ≡ g.row.M = search rules in
     let w = c.in-ok-word.ensures.by.1 ∙ moved p c.args.reach c.args.z _ c.args.ring.some (omega (arith, c.requires.some)) c.join.ensures in
@@ -42,6 +42,6 @@ returns g c =
     let e = c.in-ok-word.ensures.by.1 ∙ moved p k c.args.z _ c.args.ring.some (omega (arith, c.requires.some)) c.join.ensures in
     let a = spent_then c.in-ok-word.ensures.by.0 c.in-ok-inside.ensures.by.0 in
     let t = cost g.row.M (pairs g.row.M) in
-    let r = c.sec-and.result in
-    spends_so r (spends_as r (spends_then r a c.sec-and.ensures) (omega arith))
+    let r = c.sec_and.result in
+    spends_so r (spends_as r (spends_then r a c.sec_and.ensures) (omega arith))
     (λ q h. h.1 ∙ ap (λ (v : ℕ). bit_and v (word_of c.args.pass)) (c.in-ok-inside.ensures.by.1 ∙ ap (λ (v : ℕ). is_below v (2 * k + 1)) e))

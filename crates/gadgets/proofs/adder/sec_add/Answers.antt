@@ -16,15 +16,15 @@ small j h = subst (λ (m : ℕ). m < 32) (sym (one_shl j 32 (omega arith))) (pow
 pub widen-requires : goal.widen-requires
 widen-requires g c = let s : (1 * 2 ^ c.loop-level.level) % 2 ^ 32 < 32 = small c.loop-level.level (omega arith) in search rules
 
-pub returns-in-err-wider-g : goal.returns-in-err-wider-g
-returns-in-err-wider-g g c =
+pub returns-in-err-wider_g : goal.returns-in-err-wider_g
+returns-in-err-wider_g g c =
     let t = times_below c.loop-level.level 4 (3 * pairs g.row.M) c.loop-level-test.true in
-    let s = short_of {b = 14 * pairs g.row.M} (short_then (spent_then c.in-ok-g.ensures.by.0 c.loop-level.invariant.1) c.in-err-wider-g.ensures.by) (omega arith) in
+    let s = short_of {b = 14 * pairs g.row.M} (short_then (spent_then c.in-ok-g.ensures.by.0 c.loop-level.invariant.1) c.in-err-wider_g.ensures.by) (omega arith) in
     search rules
 
 pub loop-level-preserved : goal.loop-level-preserved
 loop-level-preserved g c =
-    let w = c.in-ok-wider-g.ensures.by in
+    let w = c.in-ok-wider_g.ensures.by in
     let j = c.loop-level.level in (
       λ k h. level j ((1 * 2 ^ j) % 2 ^ 32) k _ _ _ _ (one_shl j 32 (omega arith)) (c.loop-level.invariant.0 k h) w.1.0 w.1.1,
       spent_as (spent_then c.loop-level.invariant.1 w.0) (times_more j (3 * pairs g.row.M)),
@@ -54,6 +54,6 @@ returns g c =
         spent_as s (omega arith),
         sum_last X Y (word_of c.loop-level.g) (word_of c.loop-level.p) _ _ _ _ _ _ lx ly
             (subst (λ (n : ℕ). Carried (2 ^ n) (carries_of X Y) (word_of c.loop-level.g) (word_of c.loop-level.p)) at last)
-            c.shift-left.ensures c.in-ok-carried.ensures.by.1.1 c.xor.ensures c.xor-sum.ensures c.shift-left-2.ensures c.xor-2.ensures,
+            c.shift_left.ensures c.in-ok-carried.ensures.by.1.1 c.xor.ensures c.xor-sum.ensures c.shift_left-2.ensures c.xor-2.ensures,
       );
     }

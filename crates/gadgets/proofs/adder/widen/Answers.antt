@@ -23,8 +23,8 @@ returns g c =
       by = (
         spent_as (spent_then (spent_then c.in-ok-carried.ensures.by.0 c.in-ok-shifted.ensures.by.0) c.in-ok-run.ensures.by.0) (omega arith),
         (
-          c.xor.ensures ∙ ap (bit_xor (word_of c.args.g)) (c.in-ok-carried.ensures.by.1.1 ∙ ap (λ (v : ℕ). bit_and v (word_of c.args.p)) c.shift-left.ensures),
-          c.in-ok-run.ensures.by.1.1 ∙ ap (bit_and (word_of c.args.p)) (c.in-ok-shifted.ensures.by.1.2 ∙ c.shift-left-2.ensures),
+          c.xor.ensures ∙ ap (bit_xor (word_of c.args.g)) (c.in-ok-carried.ensures.by.1.1 ∙ ap (λ (v : ℕ). bit_and v (word_of c.args.p)) c.shift_left.ensures),
+          c.in-ok-run.ensures.by.1.1 ∙ ap (bit_and (word_of c.args.p)) (c.in-ok-shifted.ensures.by.1.2 ∙ c.shift_left-2.ensures),
         ),
       );
     }

@@ -27,8 +27,8 @@ loop-i-preserved g c =
       spent_as (spent_then c.loop-i.invariant.1 m.0) (omega arith),
     )
 
-pub to-words-requires : goal.to-words-requires
-to-words-requires g c = (search rules, (c.requires.some, c.loop-i.invariant.0.in-y))
+pub to_words-requires : goal.to_words-requires
+to_words-requires g c = (search rules, (c.requires.some, c.loop-i.invariant.0.in-y))
 
 pub returns-in-err-less : goal.returns-in-err-less
 returns-in-err-less g c =
@@ -37,8 +37,8 @@ returns-in-err-less g c =
     let s = short_of {b = cost (residue_rule c.args.ring.p).cost g.row.M} (short_then c.loop-i.invariant.1 c.in-err-less.ensures.by) (omega arith) in
     search rules
 
-pub sec-add-modp-requires : goal.sec-add-modp-requires
-sec-add-modp-requires g c =
+pub sec_add_modp-requires : goal.sec_add_modp-requires
+sec_add_modp-requires g c =
     let p = c.args.ring.p in
     let w : residue_of p c.loop-i.negatives < p = recombine-in (residue_rule p) (residue_laws p c.args.ring.some) c.loop-i.negatives c.loop-i.invariant.0.in-y in
     (search rules, (c.requires.some, (omega (arith, c.in-ok-less.ensures.by.1), c.requires.below)))

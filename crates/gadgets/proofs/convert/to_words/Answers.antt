@@ -14,8 +14,8 @@ loop-i-init g c =
     let laws = residue_laws p c.args.ring.some in
     (subst (λ (v : ℕ). Left u laws c.args.x v 0) (sym (word_zeros g.row.M)) (left-none u laws c.args.x c.requires.within), spent_as (spent_none _) (sym (times_none (33 * pairs g.row.M))))
 
-pub sec-add-modp-requires : goal.sec-add-modp-requires
-sec-add-modp-requires g c =
+pub sec_add_modp-requires : goal.sec_add_modp-requires
+sec_add_modp-requires g c =
     let hx : length c.args.x ≡ g.row.M = search rules in
     let w = c.requires.within c.loop-i.i (omega arith) in
     let e : word_of c.in-ok-part.part ≡ get_or c.args.x c.loop-i.i 0 = c.in-ok-part.ensures.by.1.2 ∙ word_public g.row.M _ c.requires.some c.public.ensures in

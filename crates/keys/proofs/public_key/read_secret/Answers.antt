@@ -10,8 +10,8 @@ coefficients-preserved g c =
     let i = c.coefficients.i in
     let secret = c.args.secret.now in
     let fits : SFits w8 (get_or secret i (pos 0)) = search rules in
-    take_more_set c.coefficients.out i c.secret-residue.result (omega arith)
-    ∙ ap₂ (λ (xs : List ℕ) (x : ℕ). xs ++ x ∷ []) c.coefficients.invariant (c.secret-residue.ensures ∙ ap f (to_z-of_z w8 _ fits))
+    take_more_set c.coefficients.out i c.secret_residue.result (omega arith)
+    ∙ ap₂ (λ (xs : List ℕ) (x : ℕ). xs ++ x ∷ []) c.coefficients.invariant (c.secret_residue.ensures ∙ ap f (to_z-of_z w8 _ fits))
     ∙ sym (map_more f secret i (pos 0) (omega arith))
 
 pub returns : goal.returns

@@ -7,12 +7,12 @@ use Rattle.keys.proofs.sharing.first_not_ternary.Goals as goal
 pub coefficients-preserved : goal.coefficients-preserved
 coefficients-preserved c =
     let fits : SFits w8 (get_or c.args.secret.now c.coefficients.i (pos 0)) = search rules in
-    sym (miss-here (pos 0) not_ternary c.args.secret.now c.coefficients.i (omega arith) (ap not_ternary (sym (to_z-of_z w8 _ fits)) ∙ sym c.if-is-not-ternary.ensures)) ∙ c.coefficients.invariant
+    sym (miss-here (pos 0) not_ternary c.args.secret.now c.coefficients.i (omega arith) (ap not_ternary (sym (to_z-of_z w8 _ fits)) ∙ sym c.if-is_not_ternary.ensures)) ∙ c.coefficients.invariant
 
-pub returns-then-is-not-ternary : goal.returns-then-is-not-ternary
-returns-then-is-not-ternary c =
+pub returns-then-is_not_ternary : goal.returns-then-is_not_ternary
+returns-then-is_not_ternary c =
     let fits : SFits w8 (get_or c.args.secret.now c.coefficients.i (pos 0)) = search rules in
-    sym (hit-here (pos 0) not_ternary c.args.secret.now c.coefficients.i (omega arith) (ap not_ternary (sym (to_z-of_z w8 _ fits)) ∙ sym c.if-is-not-ternary.ensures)) ∙ c.coefficients.invariant
+    sym (hit-here (pos 0) not_ternary c.args.secret.now c.coefficients.i (omega arith) (ap not_ternary (sym (to_z-of_z w8 _ fits)) ∙ sym c.if-is_not_ternary.ensures)) ∙ c.coefficients.invariant
 
 pub returns : goal.returns
 returns c = sym (none_left (pos 0) not_ternary c.args.secret.now c.coefficients.i (omega arith)) ∙ c.coefficients.invariant

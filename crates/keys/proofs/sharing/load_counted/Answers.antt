@@ -5,9 +5,9 @@ use Rattle.keys.proofs.sharing.load_counted.Goals as goal
 pub returns : goal.returns
 returns g c =
     let f = g.W.Source.flow c.args.masks.now in
-    let m = c.load-shares-outcome.new.masks in
+    let m = c.load_shares-outcome.new.masks in
     let f' = g.W.Source.flow m.src.now in
-    let d = c.load-shares-outcome.ensures in
+    let d = c.load_shares-outcome.ensures in
     let e = metered-same _ m.src.ghost_name 0 m.count f f' _ d in
     let s = metered-spends _ m.src.ghost_name 0 m.count f f' _ d in
     let k = metered_count _ m.src.ghost_name m.count f f' _ d (omega arith) (g.W.Source.few c.args.masks.now) in

@@ -12,8 +12,8 @@ use Rattle.keys.proofs.sharing.load_key.Goals as goal
 pub loop-c-init : goal.loop-c-init
 loop-c-init g c = going-none g.S.ParamSet.params g.row.M c.args.secret.now (g.W.Source.flow c.args.masks.now) c.args.key.now
 
-pub load-coefficient-requires : goal.load-coefficient-requires
-load-coefficient-requires g c =
+pub load_coefficient-requires : goal.load_coefficient-requires
+load_coefficient-requires g c =
     let s = g.S.ParamSet.params in
     let n = c.degree-n.ensures in
     let least = g.S.ParamSet.sound.n_least in
@@ -22,7 +22,7 @@ load-coefficient-requires g c =
     let e = c.of-ring.ensures in
     let r = residue_below s.p (get_or c.args.secret.now c.loop-c.c (pos 0)) some in
     let fits : SFits w8 (get_or c.args.secret.now c.loop-c.c (pos 0)) = search rules in
-    let v = c.secret-residue-value.ensures ∙ ap (residue s.p) (to_z-of_z w8 _ fits) in
+    let v = c.secret_residue-value.ensures ∙ ap (residue s.p) (to_z-of_z w8 _ fits) in
     record {
       some = c.requires.some;
       small = (omega arith, (omega arith, c.requires.most));
@@ -33,10 +33,10 @@ load-coefficient-requires g c =
 pub loop-c-preserved : goal.loop-c-preserved
 loop-c-preserved g c =
     let s = g.S.ParamSet.params in
-    let d = c.in-ok-load-coefficient.ensures in
+    let d = c.in-ok-load_coefficient.ensures in
     let inside : c.loop-c.c < length c.args.secret.now = let n = c.degree-n.ensures in let h = c.loop-c-test.true in let b = c.coefficients-c-end.ensures in let l = c.requires.secret in omega arith in
     let fits : SFits w8 (get_or c.args.secret.now c.loop-c.c (pos 0)) = search rules in
-    let v : c.secret-residue-value.result ≡ get_or (residues_of s c.args.secret.now) c.loop-c.c 0 = c.secret-residue-value.ensures ∙ ap (residue s.p) (to_z-of_z w8 _ fits) ∙ sym (get_or-map (residue s.p) c.args.secret.now c.loop-c.c (pos 0) 0 inside) in
+    let v : c.secret_residue-value.result ≡ get_or (residues_of s c.args.secret.now) c.loop-c.c 0 = c.secret_residue-value.ensures ∙ ap (residue s.p) (to_z-of_z w8 _ fits) ∙ sym (get_or-map (residue s.p) c.args.secret.now c.loop-c.c (pos 0) 0 inside) in
     let t = step_as c.of-ring.ensures c.degree-n.ensures record { split = d.split; others = d.others } in
     going_more s g.row.M c.args.secret.now (g.W.Source.flow c.args.masks.now) v t c.loop-c.invariant
 
@@ -47,9 +47,9 @@ returns g c =
     let e : c.loop-c.c ≡ 2 * g.S.ParamSet.params.n = omega arith in
     record { by = going-all g.S.ParamSet.params g.row.M c.args.secret.now (g.W.Source.flow c.args.masks.now) (omega arith) c.requires.secret (c.loop-c.auto.key ∙ c.requires.sized) e c.loop-c.invariant }
 
-pub returns-in-err-load-coefficient : goal.returns-in-err-load-coefficient
-returns-in-err-load-coefficient g c =
-    let d = c.in-err-load-coefficient.ensures in
+pub returns-in-err-load_coefficient : goal.returns-in-err-load_coefficient
+returns-in-err-load_coefficient g c =
+    let d = c.in-err-load_coefficient.ensures in
     let t = step_as c.of-ring.ensures c.degree-n.ensures record { split = d.split; others = d.others } in
     let n = c.degree-n.ensures in
     let p = err_from_is_err_and c.from-residual.result c.from-residual.ensures.1 in

@@ -6,8 +6,8 @@ use Rattle.polys.proofs.Rows.{Written, row_before, row-proper, written-more, row
 use Rattle.polys.proofs.Sums.{commit_value}
 use Rattle.polys.proofs.linear.commit_rows.Goals as goal
 
-pub multiply-add-requires : goal.multiply-add-requires
-multiply-add-requires g c =
+pub multiply_add-requires : goal.multiply_add-requires
+multiply_add-requires g c =
     let s = g.S.ParamSet.params in
     let y = c.args.y.now in
     let i = c.shares.i in
@@ -29,9 +29,9 @@ shares-preserved g c =
     let i = c.shares.i in
     let b = row_before s.n i g.row.M (omega arith) in
     let at : (j : ℕ) → row c.degree-n.result j y ≡ row s.n j y = λ j. ap (λ (k : ℕ). row k j y) c.degree-n.ensures in
-    let long : length c.multiply-add.new.out ≡ s.n = search rules in
-    written-more s.n (λ (k : ℕ). plus p (product p c.args.a.now (row s.n k y)) (row s.n (g.row.M + k) y)) i c.shares.r c.multiply-add.new.out c.degree-n.result c.degree-n.ensures (omega arith) long
-    (c.multiply-add.ensures ∙ ap₂ (λ (u v : List ℕ). plus p (product p c.args.a.now u) v) (c.row.ensures ∙ at i) (c.row-in-shares.ensures ∙ at (g.row.M + i)))
+    let long : length c.multiply_add.new.out ≡ s.n = search rules in
+    written-more s.n (λ (k : ℕ). plus p (product p c.args.a.now (row s.n k y)) (row s.n (g.row.M + k) y)) i c.shares.r c.multiply_add.new.out c.degree-n.result c.degree-n.ensures (omega arith) long
+    (c.multiply_add.ensures ∙ ap₂ (λ (u v : List ℕ). plus p (product p c.args.a.now u) v) (c.row.ensures ∙ at i) (c.row-in-shares.ensures ∙ at (g.row.M + i)))
     c.shares.invariant
 
 pub returns : goal.returns

@@ -18,8 +18,8 @@ row-requires-in-rows g c =
     let e : length c.args.y.now ≡ 2 * g.row.M * c.degree-n.result = c.requires.sized.1.1 ∙ ap (λ (k : ℕ). 2 * g.row.M * k) (sym c.degree-n.ensures) in
     omega arith
 
-pub multiply-add-requires : goal.multiply-add-requires
-multiply-add-requires g c =
+pub multiply_add-requires : goal.multiply_add-requires
+multiply_add-requires g c =
     let s = g.S.ParamSet.params in
     let key = c.args.key.now in
     let y = c.args.y.now in
@@ -40,9 +40,9 @@ rows-preserved g c =
     let y = c.args.y.now in
     let j = c.rows.j in
     let b = row_before s.n j (2 * g.row.M) (omega arith) in
-    let long : length c.multiply-add.new.out ≡ s.n = search rules in
-    written-more s.n (λ (k : ℕ). plus p (product p (row s.n k key) c.args.c.now) (row s.n k y)) j c.rows.z c.multiply-add.new.out c.degree-n.result c.degree-n.ensures (omega arith) long
-    (c.multiply-add.ensures ∙ ap₂ (λ (u v : List ℕ). plus p (product p u c.args.c.now) v) (c.row.ensures ∙ ap (λ (k : ℕ). row k j key) c.degree-n.ensures) (c.row-in-rows.ensures ∙ ap (λ (k : ℕ). row k j y) c.degree-n.ensures))
+    let long : length c.multiply_add.new.out ≡ s.n = search rules in
+    written-more s.n (λ (k : ℕ). plus p (product p (row s.n k key) c.args.c.now) (row s.n k y)) j c.rows.z c.multiply_add.new.out c.degree-n.result c.degree-n.ensures (omega arith) long
+    (c.multiply_add.ensures ∙ ap₂ (λ (u v : List ℕ). plus p (product p u c.args.c.now) v) (c.row.ensures ∙ ap (λ (k : ℕ). row k j key) c.degree-n.ensures) (c.row-in-rows.ensures ∙ ap (λ (k : ℕ). row k j y) c.degree-n.ensures))
     c.rows.invariant
 
 pub returns : goal.returns

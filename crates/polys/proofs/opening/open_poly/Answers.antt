@@ -13,8 +13,8 @@ use Rattle.polys.proofs.opening.open_poly.Goals as goal
 one-polynomial : (s : Params) (m : ℕ) (r : List ℕ) → length r ≡ m * s.n → length r ≡ 1 * m * s.n
 one-polynomial s m r e = e ∙ ap (λ (k : ℕ). k * s.n) (sym (one-mul m))
 
-pub open-coefficient-requires : goal.open-coefficient-requires
-open-coefficient-requires g c =
+pub open_coefficient-requires : goal.open_coefficient-requires
+open_coefficient-requires g c =
     let s = g.S.ParamSet.params in
     let least = g.S.ParamSet.sound.n_least in
     let n = c.degree-c-end.ensures in

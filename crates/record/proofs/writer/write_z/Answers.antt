@@ -12,7 +12,7 @@ coefficients-preserved c =
     let i = c.coefficients.i in
     let field = le2 (of_z w16 (get_or z i (pos 0))) in
     let fits : SFits w16 (get_or z i (pos 0)) = search rules in
-    let is = c.copy-from-slice.ensures.after ∙ c.to-le-bytes.ensures ∙ ap (λ (x : ℤ). le2 (of_z w16 x)) (to_z-of_z w16 _ fits) in
+    let is = c.copy_from_slice.ensures.after ∙ c.to_le_bytes.ensures ∙ ap (λ (x : ℤ). le2 (of_z w16 x)) (to_z-of_z w16 _ fits) in
     ap (λ (xs : List ℕ). xs ++ z_bytes (drop (i + 1) z)) (next_field (2 * i) _ part _ (take (2 * i) part) field refl is (2 * (i + 1)) (omega arith) (omega arith))
     ∙ append_assoc (take (2 * i) part) field (z_bytes (drop (i + 1) z))
     ∙ ap (λ (xs : List ℕ). take (2 * i) part ++ xs) (sym (at_drop_more z_bytes z i (pos 0) (omega arith)))

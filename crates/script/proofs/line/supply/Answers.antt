@@ -3,10 +3,10 @@ use Rattle.script.proofs.Split.{spaced_under}
 use Rattle.script.proofs.line.supply.Goals as goal
 
 pub returns-in-ok-listed : goal.returns-in-ok-listed
-returns-in-ok-listed c name = rw (c.first-word.ensures, c.in-tape-default.is-tape-0, spaced_under) (c.in-ok-listed.ensures (name ++ codes " tape"))
+returns-in-ok-listed c name = rw (c.first_word.ensures, c.in-tape-default.is-tape-0, spaced_under) (c.in-ok-listed.ensures (name ++ codes " tape"))
 
 pub returns-in-generator-Some : goal.returns-in-generator-Some
-returns-in-generator-Some c = simp (c.first-word.ensures, c.in-generator-Some.is-1, c.in-generator-Some.is-generator-0) c.generator.ensures
+returns-in-generator-Some c = simp (c.first_word.ensures, c.in-generator-Some.is-1, c.in-generator-Some.is-generator-0) c.generator.ensures
 
 pub returns-in-ok-counted : goal.returns-in-ok-counted
-returns-in-ok-counted c name = rw (c.first-word.ensures, c.in-health-default.is-health-0, spaced_under) (c.in-ok-counted.ensures.number (name ++ codes " health"))
+returns-in-ok-counted c name = rw (c.first_word.ensures, c.in-health-default.is-health-0, spaced_under) (c.in-ok-counted.ensures.number (name ++ codes " health"))

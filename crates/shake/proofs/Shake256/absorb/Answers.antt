@@ -17,13 +17,13 @@ loop-i-preserved-then-bytes-i-ge8 c =
     let bs : List ℕ = c.args.bytes.now in
     let e : i + 8 - i ≡ 8 = omega arith in
     let part = take-add i 8 bs ∙ ap (λ (n : ℕ). take i bs ++ take n (drop i bs)) (sym e) in
-    (λ m a. joined m (take i bs) _ _ _ part (c.absorb-lane.ensures (m ++ take i bs) (c.loop-i.invariant.0 m a)), omega arith)
+    (λ m a. joined m (take i bs) _ _ _ part (c.absorb_lane.ensures (m ++ take i bs) (c.loop-i.invariant.0 m a)), omega arith)
 
 pub loop-i-preserved : goal.loop-i-preserved
 loop-i-preserved c =
     let i : ℕ = c.loop-i.i in
     let bs : List ℕ = c.args.bytes.now in
-    (λ m a. joined m (take i bs) _ _ _ (take_more bs i 0 c.loop-i-test.true) (c.absorb-byte.ensures (m ++ take i bs) (c.loop-i.invariant.0 m a)), omega arith)
+    (λ m a. joined m (take i bs) _ _ _ (take_more bs i 0 c.loop-i-test.true) (c.absorb_byte.ensures (m ++ take i bs) (c.loop-i.invariant.0 m a)), omega arith)
 
 pub returns : goal.returns
 returns c =

@@ -22,6 +22,6 @@ returns c =
     let le : k + 8 ≤ 136 = omega (arith, c.requires.0) in
     let place : c.advance-self.result ≡ (k + length bs) % 136 = omega arith in
     let n : length bs ≡ 8 = c.requires.1 in
-    let w = eight_number bs c.from-le-bytes-lane.result n c.from-le-bytes-lane.ensures in
-    let x = lane_is s k c.from-le-bytes-lane.result bs l c.requires.0 n (each_byte bs (λ i. (c.type-inv.bytes i).fits)) w in
+    let w = eight_number bs c.from_le_bytes-lane.result n c.from_le_bytes-lane.ensures in
+    let x = lane_is s k c.from_le_bytes-lane.result bs l c.requires.0 n (each_byte bs (λ i. (c.type-inv.bytes i).fits)) w in
     absorbing_more m bs c.args.self.now _ a (c.advance-self.ensures.state ∙ ap (passed (k + 8)) x ∙ fed-lane s k bs n le) place

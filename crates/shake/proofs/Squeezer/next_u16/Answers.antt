@@ -8,7 +8,7 @@ pub returns-then-self-eq0 : goal.returns-then-self-eq0
 returns-then-self-eq0 c =
     λ m i a.
     let l : c.args.self.now.pos % 8 + 2 ≤ 8 = omega arith in (
-      word_is m i 2 c.rest-of-lane.result c.args.self.now a c.rest-of-lane.ensures l,
+      word_is m i 2 c.rest_of_lane.result c.args.self.now a c.rest_of_lane.ensures l,
       reading_on m i 2 c.args.self.now _ _ a (omega arith) c.advance-self.ensures.state c.advance-self.ensures.place,
     )
 
@@ -16,6 +16,6 @@ pub returns-else-self-eq0 : goal.returns-else-self-eq0
 unfolding shake_word
 returns-else-self-eq0 c =
     λ m i a.
-    let low = c.next-byte-low.ensures m i a in
-    let high = c.next-byte-high.ensures m (i + 1) low.1 in
-    (omega (arith, low.0, high.0), subst (λ (k : ℕ). Reading m k c.next-byte-high.new.self) (add_assoc i 1 1) high.1)
+    let low = c.next_byte-low.ensures m i a in
+    let high = c.next_byte-high.ensures m (i + 1) low.1 in
+    (omega (arith, low.0, high.0), subst (λ (k : ℕ). Reading m k c.next_byte-high.new.self) (add_assoc i 1 1) high.1)

@@ -13,10 +13,10 @@ pub loop-byte-preserved : goal.loop-byte-preserved
 loop-byte-preserved c =
     λ m i a.
     let p = c.loop-byte.invariant m i a in
-    let n = c.next-byte.ensures m (i + c.loop-byte.byte-index) p.1 in
+    let n = c.next_byte.ensures m (i + c.loop-byte.byte-index) p.1 in
     let l : c.loop-byte.byte-index < length c.loop-byte.out = omega arith in (
-      one_more m c.loop-byte.out i c.loop-byte.byte-index c.next-byte.result l p.0 n.0,
-      subst (λ (k : ℕ). Reading m k c.next-byte.new.self) (add_assoc i c.loop-byte.byte-index 1) n.1,
+      one_more m c.loop-byte.out i c.loop-byte.byte-index c.next_byte.result l p.0 n.0,
+      subst (λ (k : ℕ). Reading m k c.next_byte.new.self) (add_assoc i c.loop-byte.byte-index 1) n.1,
     )
 
 pub returns : goal.returns

@@ -51,7 +51,7 @@ returns g c =
     let a = c.loop-i.invariant.all in
     let f = g.S.Source.flow in
     let e = ap (λ ps. crossed_all c.args.x c.args.y ps (f c.loop-i.src).words c.loop-i.out) (sym none) ∙ c.loop-i.invariant.on
-    ∙ ap (crossed_all c.args.x c.args.y (rows 0 m) (f c.args.src.now).words) c.share-products-out.ensures in
+    ∙ ap (crossed_all c.args.x c.args.y (rows 0 m) (f c.args.src.now).words) c.share_products-out.ensures in
     record {
       by = (
         spent_as c.loop-i.invariant.spent (omega arith),

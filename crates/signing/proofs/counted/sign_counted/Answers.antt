@@ -9,11 +9,11 @@ returns g c =
     let s = g.S.ParamSet.params in
     let n = g.N.Source.flow c.args.nonces.now in
     let f = g.W.Source.flow c.args.masks.now in
-    let mn = c.sign-shares-ending.new.nonces in
-    let mf = c.sign-shares-ending.new.masks in
+    let mn = c.sign_shares-ending.new.nonces in
+    let mf = c.sign_shares-ending.new.masks in
     let n' = g.N.Source.flow mn.src.now in
     let f' = g.W.Source.flow mf.src.now in
-    let d = c.sign-shares-ending.ensures in
+    let d = c.sign_shares-ending.ensures in
     let en = meter-same _ _ mn.src.ghost_name mn.count n n' d.nonces in
     let ef = meter-same _ _ mf.src.ghost_name mf.count f f' d.masks in
     let sn = meter-spent _ _ mn.src.ghost_name mn.count n n' d.nonces in
@@ -21,7 +21,7 @@ returns g c =
     let kn = meter-count _ _ mn.src.ghost_name mn.count n n' d.nonces (omega arith) (g.N.Source.few c.args.nonces.now) in
     let kf = meter-count _ _ mf.src.ghost_name mf.count f f' d.masks (omega arith) (g.W.Source.few c.args.masks.now) in
     let R = plain_run s c.args.shares (subject_of s c.args.shares c.args.a.now c.args.key.now c.args.digest.now c.args.counter) c.args.tries n f in
-    let follows : Follows s c.args.shares c.args.tries c.sign-shares-ending.result c.args.record.now c.sign-shares-ending.new.record n n' f f' R = record { ends = d.ends; nonces = sn; masks = sf; left = d.left; seen = d.seen } in
+    let follows : Follows s c.args.shares c.args.tries c.sign_shares-ending.result c.args.record.now c.sign_shares-ending.new.record n n' f f' R = record { ends = d.ends; nonces = sn; masks = sf; left = d.left; seen = d.seen } in
     let drawn = c.count-drawn.ensures ∙ kn in
-    let counts = counts_are R _ _ _ _ (c.attempts_begun.ensures ∙ begun_is s c.args.tries c.sign-shares-ending.result _ _ R d.ends) (ap (λ (k : ℕ). k / c.args.shares) drawn ∙ sym d.seen) drawn (c.count.ensures ∙ kf) in
+    let counts = counts_are R _ _ _ _ (c.attempts_begun.ensures ∙ begun_is s c.args.tries c.sign_shares-ending.result _ _ R d.ends) (ap (λ (k : ℕ). k / c.args.shares) drawn ∙ sym d.seen) drawn (c.count.ensures ∙ kf) in
     search rules

@@ -12,8 +12,8 @@ use Rattle.till.specs.Verdict.{above, verdict}
 use Rattle.till.specs.Verification.{answering, content, expected}
 use Rattle.till.specs.declared.payment.Payment.{Payment}
 
-pub returns-in-err-check-key : goal.returns-in-err-check-key
-returns-in-err-check-key g c =
+pub returns-in-err-check_key : goal.returns-in-err-check_key
+returns-in-err-check_key g c =
     let s = g.S.ParamSet.params in
     let sound = g.S.ParamSet.sound in
     let key = c.args.self.now.key.now in
@@ -22,7 +22,7 @@ returns-in-err-check-key g c =
     let r = c.from-residual.result in
     let p = err_from_is_err_and r c.from-residual.ensures.1 in
     let is = p.1 ∙ ap Err p.2 in
-    let answer = refused s sound key last bytes r _ is (key-refused s sound key last bytes _ c.in-err-check-key.ensures) in
+    let answer = refused s sound key last bytes r _ is (key-refused s sound key last bytes _ c.in-err-check_key.ensures) in
     record { answer = answer; last = unchanged s sound key last bytes r _ is; key = refl; accepts = ok-accepts s sound key last bytes r answer; accepted = accepts-ok s sound key last bytes r answer }
 
 pub returns-in-err-record : goal.returns-in-err-record
@@ -32,7 +32,7 @@ returns-in-err-record g c =
     let key = c.args.self.now.key.now in
     let last = c.args.self.now.last in
     let bytes = c.args.bytes.now in
-    let opens = c.in-ok-check-key.ensures in
+    let opens = c.in-ok-check_key.ensures in
     let r = c.from-residual-in-err-record.result in
     let p = err_from_is_err_and r c.from-residual-in-err-record.ensures.1 in
     let is = p.1 ∙ ap Err p.2 in
@@ -46,7 +46,7 @@ answers-requires g c =
     let bytes = c.args.bytes.now in
     let parts = c.in-ok-record.ensures in
     record {
-      key = c.in-ok-check-key.ensures.2;
+      key = c.in-ok-check_key.ensures.2;
       z = length-z-part s sound bytes parts.0 _ parts.3;
       challenge = length-c-part s sound bytes parts.0 _ parts.4;
     }
@@ -62,7 +62,7 @@ returns-then-not-answers g c =
     let key = c.args.self.now.key.now in
     let last = c.args.self.now.last in
     let bytes = c.args.bytes.now in
-    let opens = c.in-ok-check-key.ensures in
+    let opens = c.in-ok-check_key.ensures in
     let parts = c.in-ok-record.ensures in
     let says = content_is s bytes c.in-ok-record.record parts.1 parts.2 parts.3 parts.4 in
     let other = told s key bytes c.in-ok-record.record _ says c.answers.ensures ∙ c.if-not-answers.true in
@@ -77,7 +77,7 @@ returns-then-not-above g c =
     let key = c.args.self.now.key.now in
     let last = c.args.self.now.last in
     let bytes = c.args.bytes.now in
-    let opens = c.in-ok-check-key.ensures in
+    let opens = c.in-ok-check_key.ensures in
     let parts = c.in-ok-record.ensures in
     let says = content_is s bytes c.in-ok-record.record parts.1 parts.2 parts.3 parts.4 in
     let same = told s key bytes c.in-ok-record.record _ says c.answers.ensures ∙ c.if-not-answers.false in
@@ -98,7 +98,7 @@ returns g c =
     let key = c.args.self.now.key.now in
     let last = c.args.self.now.last in
     let bytes = c.args.bytes.now in
-    let opens = c.in-ok-check-key.ensures in
+    let opens = c.in-ok-check_key.ensures in
     let parts = c.in-ok-record.ensures in
     let says = content_is s bytes c.in-ok-record.record parts.1 parts.2 parts.3 parts.4 in
     let same = told s key bytes c.in-ok-record.record _ says c.answers.ensures ∙ c.if-not-answers.false in

@@ -11,9 +11,9 @@ coefficients-preserved g c =
     let f = residue g.S.ParamSet.params.p in
     let bytes = c.args.bytes.now in
     let i = c.coefficients.i in
-    let fits : SFits w16 c.from-le-bytes.result = search rules in
-    let here = to_z-of_z w16 _ fits ∙ c.from-le-bytes.ensures ∙ sym (get_d_z bytes i (pos 0) (omega arith)) in
-    written-more f c.coefficients.z (z_of bytes) i (pos 0) c.to-residue.result (omega arith) (omega (arith, length_z bytes)) c.coefficients.invariant (c.to-residue.ensures ∙ ap f here)
+    let fits : SFits w16 c.from_le_bytes.result = search rules in
+    let here = to_z-of_z w16 _ fits ∙ c.from_le_bytes.ensures ∙ sym (get_d_z bytes i (pos 0) (omega arith)) in
+    written-more f c.coefficients.z (z_of bytes) i (pos 0) c.to_residue.result (omega arith) (omega (arith, length_z bytes)) c.coefficients.invariant (c.to_residue.ensures ∙ ap f here)
 
 pub returns : goal.returns
 returns g c =

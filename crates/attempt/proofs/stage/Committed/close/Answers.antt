@@ -10,25 +10,25 @@ unfolding cost
 returns-then-not-passes g c =
     let s = g.S.ParamSet.params in
     let d = c.in-Ok.ensures.by in
-    record { by = (ap (all_near s) (sym (ap (map (centre s.p)) c.respond-rows.ensures.value)) ∙ sym d.1 ∙ c.if-not-passes.true, d.0) }
+    record { by = (ap (all_near s) (sym (ap (map (centre s.p)) c.respond_rows.ensures.value)) ∙ sym d.1 ∙ c.if-not-passes.true, d.0) }
 
 pub returns-in-Err : goal.returns-in-Err
 unfolding cost
-returns-in-Err g c = record { by = inl record { mark = c.in-Err.mark; is = c.masks-ended.ensures; paid = omega arith; short = short_of c.in-Err.ensures.by (omega arith) } }
+returns-in-Err g c = record { by = inl record { mark = c.in-Err.mark; is = c.masks_ended.ensures; paid = omega arith; short = short_of c.in-Err.ensures.by (omega arith) } }
 
-pub returns-in-Ok-open-response : goal.returns-in-Ok-open-response
+pub returns-in-Ok-open_response : goal.returns-in-Ok-open_response
 unfolding cost
-returns-in-Ok-open-response g c =
+returns-in-Ok-open_response g c =
     let s = g.S.ParamSet.params in
     let d = c.in-Ok.ensures.by in
-    let o = c.in-Ok-open-response.ensures.by in
-    let e = ap (map (centre s.p)) c.respond-rows.ensures.value in
+    let o = c.in-Ok-open_response.ensures.by in
+    let e = ap (map (centre s.p)) c.respond_rows.ensures.value in
     record { by = (ap (all_near s) (sym e) ∙ sym d.1 ∙ c.if-not-passes.false, spent_then d.0 o.0, o.1 ∙ e) }
 
-pub returns-in-Err-open-response : goal.returns-in-Err-open-response
+pub returns-in-Err-open_response : goal.returns-in-Err-open_response
 unfolding cost
-returns-in-Err-open-response g c =
+returns-in-Err-open_response g c =
     let s = g.S.ParamSet.params in
     let d = c.in-Ok.ensures.by in
-    let e = ap (map (centre s.p)) c.respond-rows.ensures.value in
-    record { by = inr (ap (all_near s) (sym e) ∙ sym d.1 ∙ c.if-not-passes.false, record { mark = c.in-Err-open-response.mark; is = c.masks-ended-in-Err-open-response.ensures; paid = d.0.enough; short = short_then d.0 c.in-Err-open-response.ensures.by }) }
+    let e = ap (map (centre s.p)) c.respond_rows.ensures.value in
+    record { by = inr (ap (all_near s) (sym e) ∙ sym d.1 ∙ c.if-not-passes.false, record { mark = c.in-Err-open_response.mark; is = c.masks_ended-in-Err-open_response.ensures; paid = d.0.enough; short = short_then d.0 c.in-Err-open_response.ensures.by }) }

@@ -17,9 +17,9 @@ front_proper n k p xs e l r =
     let long : length (take n xs) ≡ n = length-take n xs ∙ omega arith in
     subst (λ (i : ℕ). Proper n p (take i xs)) (sym h) (long, λ i b. let c : i < n = omega arith in subst (λ (v : ℕ). v < p) (sym (get_or-take n xs i 0 c)) (r i (omega arith)))
 
-pub sign-counted-ending-requires : goal.sign-counted-ending-requires
-sign-counted-ending-requires g c =
-    let k = c.in-ok-check-sign.ensures.1 in
+pub sign_counted-ending-requires : goal.sign_counted-ending-requires
+sign_counted-ending-requires g c =
+    let k = c.in-ok-check_sign.ensures.1 in
     let s = g.S.ParamSet.params in
     record {
       some = c.args.self.now.some;
@@ -34,26 +34,26 @@ sign-counted-ending-requires g c =
 pub returns-in-Ok : goal.returns-in-Ok
 returns-in-Ok g c =
     let s = g.S.ParamSet.params in
-    let t = c.in-ok-check-sign.ensures in
+    let t = c.in-ok-check_sign.ensures in
     let card = c.args.self.now in
     let m = card.shares in
     let public = c.args.public.now in
     let n = g.N.Source.flow c.args.nonces.now in
-    let n' = g.N.Source.flow c.sign-counted-ending.new.nonces in
+    let n' = g.N.Source.flow c.sign_counted-ending.new.nonces in
     let f = g.W.Source.flow c.args.masks.now in
-    let f' = g.W.Source.flow c.sign-counted-ending.new.masks in
+    let f' = g.W.Source.flow c.sign_counted-ending.new.masks in
     let bytes = c.args.record.now in
-    let bytes' = c.sign-counted-ending.new.record in
+    let bytes' = c.sign_counted-ending.new.record in
     let work' = c.drop-guard.new.self.0 in
     let R : List ℕ → Run = λ a. plain_run s m (subject_of s m a c.args.key.now c.args.digest.now (card.counter + 1)) c.args.tries n f in
     let front : c.degree.result - 0 ≡ s.n = let d = c.degree.ensures in omega arith in
     let a-is : take (c.degree.result - 0) public ≡ take s.n public = ap (λ (i : ℕ). take i public) front in
-    let follows = subst (λ (a : List ℕ). Follows s m c.args.tries (Ok c.in-Ok.field-0) bytes bytes' n n' f f' (R a)) a-is (subst (λ (o : Result ℕ Failure). Follows s m c.args.tries o bytes bytes' n n' f f' (R (take (c.degree.result - 0) public))) c.in-Ok.is c.sign-counted-ending.ensures.follows) in
-    let counts = subst (λ (a : List ℕ). c.sign-counted-ending.result.1 ≡ counts_of (R a)) a-is c.sign-counted-ending.ensures.counts in
-    let zeroed : work' ≡ replicate (length c.args.work.now) 0 = c.drop-guard.ensures ∙ ap (λ (k : ℕ). replicate k 0) c.sign-counted-ending.auto.work in
+    let follows = subst (λ (a : List ℕ). Follows s m c.args.tries (Ok c.in-Ok.field-0) bytes bytes' n n' f f' (R a)) a-is (subst (λ (o : Result ℕ Failure). Follows s m c.args.tries o bytes bytes' n n' f f' (R (take (c.degree.result - 0) public))) c.in-Ok.is c.sign_counted-ending.ensures.follows) in
+    let counts = subst (λ (a : List ℕ). c.sign_counted-ending.result.1 ≡ counts_of (R a)) a-is c.sign_counted-ending.ensures.counts in
+    let zeroed : work' ≡ replicate (length c.args.work.now) 0 = c.drop-guard.ensures ∙ ap (λ (k : ℕ). replicate k 0) c.sign_counted-ending.auto.work in
     record {
-      signed = subst (λ (e : Option Refusal). SignBy s m c.args.digest.now c.args.tries c.args.key.now public e (Ok (record { counter = card.counter + 1; counts = c.sign-counted-ending.result.1 })) card.counter (card.counter + 1) c.args.work.now work' bytes bytes' n n' f f') (sym t.0)
-          (ran-signed s g.S.ParamSet.sound m card.some c.args.digest.now card.counter c.args.tries t.1.some_tries c.args.key.now public c.args.work.now work' bytes bytes' n n' f f' zeroed c.in-Ok.field-0 c.sign-counted-ending.result.1 follows counts);
+      signed = subst (λ (e : Option Refusal). SignBy s m c.args.digest.now c.args.tries c.args.key.now public e (Ok (record { counter = card.counter + 1; counts = c.sign_counted-ending.result.1 })) card.counter (card.counter + 1) c.args.work.now work' bytes bytes' n n' f f') (sym t.0)
+          (ran-signed s g.S.ParamSet.sound m card.some c.args.digest.now card.counter c.args.tries t.1.some_tries c.args.key.now public c.args.work.now work' bytes bytes' n n' f f' zeroed c.in-Ok.field-0 c.sign_counted-ending.result.1 follows counts);
       shares = refl;
       digest = search rules;
     }
@@ -61,26 +61,26 @@ returns-in-Ok g c =
 pub returns : goal.returns
 returns g c =
     let s = g.S.ParamSet.params in
-    let t = c.in-ok-check-sign.ensures in
+    let t = c.in-ok-check_sign.ensures in
     let card = c.args.self.now in
     let m = card.shares in
     let public = c.args.public.now in
     let n = g.N.Source.flow c.args.nonces.now in
-    let n' = g.N.Source.flow c.sign-counted-ending.new.nonces in
+    let n' = g.N.Source.flow c.sign_counted-ending.new.nonces in
     let f = g.W.Source.flow c.args.masks.now in
-    let f' = g.W.Source.flow c.sign-counted-ending.new.masks in
+    let f' = g.W.Source.flow c.sign_counted-ending.new.masks in
     let bytes = c.args.record.now in
-    let bytes' = c.sign-counted-ending.new.record in
+    let bytes' = c.sign_counted-ending.new.record in
     let work' = c.drop-guard-2.new.self.0 in
     let R : List ℕ → Run = λ a. plain_run s m (subject_of s m a c.args.key.now c.args.digest.now (card.counter + 1)) c.args.tries n f in
     let front : c.degree.result - 0 ≡ s.n = let d = c.degree.ensures in omega arith in
     let a-is : take (c.degree.result - 0) public ≡ take s.n public = ap (λ (i : ℕ). take i public) front in
-    let follows = subst (λ (a : List ℕ). Follows s m c.args.tries (Err c.in-Err.failure) bytes bytes' n n' f f' (R a)) a-is (subst (λ (o : Result ℕ Failure). Follows s m c.args.tries o bytes bytes' n n' f f' (R (take (c.degree.result - 0) public))) c.in-Err.is c.sign-counted-ending.ensures.follows) in
-    let counts = subst (λ (a : List ℕ). c.sign-counted-ending.result.1 ≡ counts_of (R a)) a-is c.sign-counted-ending.ensures.counts in
-    let zeroed : work' ≡ replicate (length c.args.work.now) 0 = c.drop-guard-2.ensures ∙ ap (λ (k : ℕ). replicate k 0) c.sign-counted-ending.auto.work in
+    let follows = subst (λ (a : List ℕ). Follows s m c.args.tries (Err c.in-Err.failure) bytes bytes' n n' f f' (R a)) a-is (subst (λ (o : Result ℕ Failure). Follows s m c.args.tries o bytes bytes' n n' f f' (R (take (c.degree.result - 0) public))) c.in-Err.is c.sign_counted-ending.ensures.follows) in
+    let counts = subst (λ (a : List ℕ). c.sign_counted-ending.result.1 ≡ counts_of (R a)) a-is c.sign_counted-ending.ensures.counts in
+    let zeroed : work' ≡ replicate (length c.args.work.now) 0 = c.drop-guard-2.ensures ∙ ap (λ (k : ℕ). replicate k 0) c.sign_counted-ending.auto.work in
     record {
       signed = subst (λ (e : Option Refusal). SignBy s m c.args.digest.now c.args.tries c.args.key.now public e (Err c.refusal.result) card.counter card.counter c.args.work.now work' bytes bytes' n n' f f') (sym t.0)
-          (ran-failed s g.S.ParamSet.sound m card.some c.args.digest.now card.counter c.args.tries t.1.some_tries c.args.key.now public c.args.work.now work' bytes bytes' n n' f f' zeroed c.in-Err.failure c.refusal.result c.sign-counted-ending.result.1 c.refusal.ensures follows counts);
+          (ran-failed s g.S.ParamSet.sound m card.some c.args.digest.now card.counter c.args.tries t.1.some_tries c.args.key.now public c.args.work.now work' bytes bytes' n n' f f' zeroed c.in-Err.failure c.refusal.result c.sign_counted-ending.result.1 c.refusal.ensures follows counts);
       shares = refl;
       digest = search rules;
     }

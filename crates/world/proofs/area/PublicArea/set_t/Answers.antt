@@ -7,6 +7,6 @@ use Rattle.world.specs.Areas.{a_of}
 pub returns : goal.returns
 returns c =
     let public = c.args.self.now in
-    let items : vec_items c.extend-from-slice.new.self ≡ a_of public ++ c.args.words.now = search rules in
+    let items : vec_items c.extend_from_slice.new.self ≡ a_of public ++ c.args.words.now = search rules in
     let sized : public.split ≡ length (a_of public) = let h = public.within in omega (arith, length-take-le public.split (vec_items public.words) (omega (arith, public.words.ok.0))) in
-    parts_joined (a_of public) c.args.words.now (vec_items c.extend-from-slice.new.self) public.split items sized
+    parts_joined (a_of public) c.args.words.now (vec_items c.extend_from_slice.new.self) public.split items sized

@@ -13,7 +13,7 @@ returns c =
     let card = c.call.new.self in
     let made = c.call.new.made in
     let Line : List ℕ → Answer → Type 0 = λ (public : List ℕ) (a : Answer). Calls (params_of w.set) c.args.call w.card.card w.card public w.made a card made in
-    cases_map (Line c.as-slice.result.now) (λ (a : Answer). CardLine w c.args.call a (with_made w card made)) (λ (_ : AllocError). (card ≡ w.card) × (made ≡ w.made)) (λ (_ : AllocError). with_made w card made ≡ w) c.call.result
-    (λ a h. record { called = subst (λ (public : List ℕ). Line public a) c.as-slice.ensures h; rest = refl })
+    cases_map (Line c.as_slice.result.now) (λ (a : Answer). CardLine w c.args.call a (with_made w card made)) (λ (_ : AllocError). (card ≡ w.card) × (made ≡ w.made)) (λ (_ : AllocError). with_made w card made ≡ w) c.call.result
+    (λ a h. record { called = subst (λ (public : List ℕ). Line public a) c.as_slice.ensures h; rest = refl })
     (λ _ h. same_world w card made h.0 h.1)
     c.call.ensures

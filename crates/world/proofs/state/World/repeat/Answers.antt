@@ -21,7 +21,7 @@ calls-preserved c =
     let inv = c.calls.invariant in
     let answer = c.in-ok-answer.answer in
     let once = more inv.1 c.in-ok-answer.ensures in
-    let one = c.from-done.ensures ∙ ap bool_byte c.is-ok.ensures ∙ bit (is_ok answer) in (
-      omega (arith, c.from-done.ensures, bit_le c.is-ok.result),
+    let one = c.from-done.ensures ∙ ap bool_byte c.is_ok.ensures ∙ bit (is_ok answer) in (
+      omega (arith, c.from-done.ensures, bit_le c.is_ok.result),
       subst (λ (n : ℕ). Repeated c.args.self.now c.args.call.now (c.calls.-turn + 1) (c.calls.done + n) (Some answer) c.call.new.self) (sym one) once,
     )
