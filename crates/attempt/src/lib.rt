@@ -69,9 +69,9 @@ impl Drawn {
     ) -> Result<Drawn, Stopped>
         requires some { 0 < M }
         requires most { M ≤ 8 }
-        requires sized { length y.old ≡ 2 * M * S.ParamSet.params.n }
-        ensures drawn { (u : Subject) → Begins S.ParamSet.params M u number result (recombined S.ParamSet.params M y.new) (N.Source.flow nonces.old) (N.Source.flow nonces.new) (W.Source.flow masks.old) (W.Source.flow masks.new) }
-        ensures residues { OnOk result (Residues S.ParamSet.params.p y.new) }
+        requires sized { length y.old ≡ 2 * M * S.params.n }
+        ensures drawn { (u : Subject) → Begins S.params M u number result (recombined S.params M y.new) (N.flow nonces.old) (N.flow nonces.new) (W.flow masks.old) (W.flow masks.new) }
+        ensures residues { OnOk result (Residues S.params.p y.new) }
     {
         match draw::<M, S, N, W>(y, nonces, masks) {
             Ok(()) => Ok(Drawn { number }),
@@ -90,10 +90,10 @@ impl Drawn {
     ) -> Result<Committed, Stopped>
         requires some { 0 < M }
         requires most { M ≤ 8 }
-        requires sized { (length opened.old ≡ S.ParamSet.params.n) × ((length shares.old ≡ M * S.ParamSet.params.n) × (length y.now ≡ 2 * M * S.ParamSet.params.n)) }
-        requires a { Proper S.ParamSet.params.n S.ParamSet.params.p a.now }
-        requires residues { Residues S.ParamSet.params.p y.now }
-        ensures { Commits S.ParamSet.params M self.number result (commitment_to S.ParamSet.params a.now (recombined S.ParamSet.params M y.now)) opened.new (W.Source.flow masks.old) (W.Source.flow masks.new) }
+        requires sized { (length opened.old ≡ S.params.n) × ((length shares.old ≡ M * S.params.n) × (length y.now ≡ 2 * M * S.params.n)) }
+        requires a { Proper S.params.n S.params.p a.now }
+        requires residues { Residues S.params.p y.now }
+        ensures { Commits S.params M self.number result (commitment_to S.params a.now (recombined S.params M y.now)) opened.new (W.flow masks.old) (W.flow masks.new) }
     {
         let Drawn { number } = self;
         commit_rows::<M, S, P>(shares, a, y);
@@ -117,11 +117,11 @@ impl Committed {
     ) -> Result<bool, Stopped>
         requires some { 0 < M }
         requires most { M ≤ 8 }
-        requires room { (length opened.old ≡ 2 * S.ParamSet.params.n) × (length shares.old ≡ 2 * M * S.ParamSet.params.n) }
-        requires sized { (length key.now ≡ 2 * M * S.ParamSet.params.n) × (length y.now ≡ 2 * M * S.ParamSet.params.n) }
-        requires residues { (Residues S.ParamSet.params.p key.now) × (Residues S.ParamSet.params.p y.now) }
-        requires c { Proper S.ParamSet.params.n S.ParamSet.params.p c.now }
-        ensures { Closes S.ParamSet.params M self.number result (answer_to S.ParamSet.params (recombined S.ParamSet.params M key.now) c.now (recombined S.ParamSet.params M y.now)) opened.new (W.Source.flow masks.old) (W.Source.flow masks.new) }
+        requires room { (length opened.old ≡ 2 * S.params.n) × (length shares.old ≡ 2 * M * S.params.n) }
+        requires sized { (length key.now ≡ 2 * M * S.params.n) × (length y.now ≡ 2 * M * S.params.n) }
+        requires residues { (Residues S.params.p key.now) × (Residues S.params.p y.now) }
+        requires c { Proper S.params.n S.params.p c.now }
+        ensures { Closes S.params M self.number result (answer_to S.params (recombined S.params M key.now) c.now (recombined S.params M y.now)) opened.new (W.flow masks.old) (W.flow masks.new) }
     {
         let Committed { number } = self;
         respond_rows::<M, S, P>(shares, key, y, c);
@@ -148,10 +148,10 @@ fn answer_room() -> [i16; 2048]
 
 // Writes a record into an area of its size.
 fn write_record<S: ParamSet>(out: &mut [u8], counter: u16, digest: &[u8; 32], z: &[i16], c: &[u32])
-    requires out { length out.old ≡ size params }
-    requires z { length z.now ≡ 2 * params.n }
-    requires c { length c.now ≡ params.n }
-    ensures { out.new ≡ encode params (content_of counter digest.now z.now c.now) }
+    requires out { length out.old ≡ size S.params }
+    requires z { length z.now ≡ 2 * S.params.n }
+    requires c { length c.now ≡ S.params.n }
+    ensures { out.new ≡ encode S.params (content_of counter digest.now z.now c.now) }
 {
     match write::<S>(out, counter, digest, z, c) {
         Ok(()) => {}
@@ -176,11 +176,11 @@ fn attempt_in<const M: usize, S: ParamSet, P: Multiply<S>, N: Source, W: Source>
 ) -> Result<bool, Stopped>
     requires some { 0 < M }
     requires most { M ≤ 8 }
-    requires key { (length key.now ≡ 2 * M * S.ParamSet.params.n) × (Residues S.ParamSet.params.p key.now) }
-    requires a { Proper S.ParamSet.params.n S.ParamSet.params.p a.now }
-    requires work { (length y.old ≡ 2 * M * S.ParamSet.params.n) × ((length z.old ≡ 2 * M * S.ParamSet.params.n) × ((length r.old ≡ M * S.ParamSet.params.n) × (length opened.old ≡ S.ParamSet.params.n))) }
-    requires record { length «record».old ≡ size S.ParamSet.params }
-    ensures { Attempts S.ParamSet.params M (subject_of S.ParamSet.params M a.now key.now digest.now counter) number result «record».old «record».new (N.Source.flow nonces.old) (N.Source.flow nonces.new) (W.Source.flow masks.old) (W.Source.flow masks.new) }
+    requires key { (length key.now ≡ 2 * M * S.params.n) × (Residues S.params.p key.now) }
+    requires a { Proper S.params.n S.params.p a.now }
+    requires work { (length y.old ≡ 2 * M * S.params.n) × ((length z.old ≡ 2 * M * S.params.n) × ((length r.old ≡ M * S.params.n) × (length opened.old ≡ S.params.n))) }
+    requires record { length «record».old ≡ size S.params }
+    ensures { Attempts S.params M (subject_of S.params M a.now key.now digest.now counter) number result «record».old «record».new (N.flow nonces.old) (N.flow nonces.new) (W.flow masks.old) (W.flow masks.new) }
 {
     let n = S::degree();
     let drawn = Drawn::draw::<M, S, N, W>(number, y, nonces, masks)?;
@@ -211,11 +211,11 @@ pub fn attempt<const M: usize, S: ParamSet, P: Multiply<S>, N: Source, W: Source
 ) -> Result<bool, Stopped>
     requires some { 0 < M }
     requires most { M ≤ 8 }
-    requires key { (length key.now ≡ 2 * M * S.ParamSet.params.n) × (Residues S.ParamSet.params.p key.now) }
-    requires a { Proper S.ParamSet.params.n S.ParamSet.params.p a.now }
-    requires work { length work.old ≡ 6 * M * S.ParamSet.params.n }
-    requires record { length «record».old ≡ size S.ParamSet.params }
-    ensures { Attempts S.ParamSet.params M (subject_of S.ParamSet.params M a.now key.now digest.now counter) number result «record».old «record».new (N.Source.flow nonces.old) (N.Source.flow nonces.new) (W.Source.flow masks.old) (W.Source.flow masks.new) }
+    requires key { (length key.now ≡ 2 * M * S.params.n) × (Residues S.params.p key.now) }
+    requires a { Proper S.params.n S.params.p a.now }
+    requires work { length work.old ≡ 6 * M * S.params.n }
+    requires record { length «record».old ≡ size S.params }
+    ensures { Attempts S.params M (subject_of S.params M a.now key.now digest.now counter) number result «record».old «record».new (N.flow nonces.old) (N.flow nonces.new) (W.flow masks.old) (W.flow masks.new) }
 {
     let n = S::degree();
     let (y, rest) = work.split_at_mut(2 * M * n);

@@ -27,8 +27,8 @@ pub fn load<S: ParamSet, P: Multiply<S>, W: Source>(
     key: &mut [u32],
     masks: &mut W,
 ) -> Result<Loaded, Refusal>
-    ensures loaded { LoadBy S.ParamSet.params shares secret.now (first_hit (load_tests S.ParamSet.params shares secret.now public.old key.old)) result public.old public.new key.old key.new (W.Source.flow masks.old) (W.Source.flow masks.new) }
-    ensures begins { OnOk result (Begins S.ParamSet.params shares secret.now public.old (areas key.new public.new [] []) (W.Source.flow masks.new)) }
+    ensures loaded { LoadBy S.params shares secret.now (first_hit (load_tests S.params shares secret.now public.old key.old)) result public.old public.new key.old key.new (W.flow masks.old) (W.flow masks.new) }
+    ensures begins { OnOk result (Begins S.params shares secret.now public.old (areas key.new public.new [] []) (W.flow masks.new)) }
 {
     card::load::<S, P, W>(shares, secret, public, key, masks)
 }
@@ -44,10 +44,10 @@ pub fn perform<S: ParamSet, P: Multiply<S>, N: Source, W: Source>(
     nonces: &mut N,
     masks: &mut W,
 ) -> Reply
-    ensures performs { Performs S.ParamSet.params card.old.shares call.now result card.old.counter card.new.counter (areas key.old public.now work.old «record».old) (areas key.new public.now work.new «record».new) (N.Source.flow nonces.old) (N.Source.flow nonces.new) (W.Source.flow masks.old) (W.Source.flow masks.new) }
+    ensures performs { Performs S.params card.old.shares call.now result card.old.counter card.new.counter (areas key.old public.now work.old «record».old) (areas key.new public.now work.new «record».new) (N.flow nonces.old) (N.flow nonces.new) (W.flow masks.old) (W.flow masks.new) }
     ensures shares { card.new.shares ≡ card.old.shares }
-    ensures same { recombined S.ParamSet.params card.old.shares key.new ≡ recombined S.ParamSet.params card.old.shares key.old }
-    ensures life { Continues S.ParamSet.params card.old.shares call.now result (state_of card.old.counter (N.Source.flow nonces.old) (W.Source.flow masks.old)) (state_of card.new.counter (N.Source.flow nonces.new) (W.Source.flow masks.new)) (areas key.old public.now work.old «record».old) (areas key.new public.now work.new «record».new) }
+    ensures same { recombined S.params card.old.shares key.new ≡ recombined S.params card.old.shares key.old }
+    ensures life { Continues S.params card.old.shares call.now result (state_of card.old.counter (N.flow nonces.old) (W.flow masks.old)) (state_of card.new.counter (N.flow nonces.new) (W.flow masks.new)) (areas key.old public.now work.old «record».old) (areas key.new public.now work.new «record».new) }
 {
     match call {
         Call::Sign { digest, tries } => Reply::Signed(card.sign::<S, P, N, W>(

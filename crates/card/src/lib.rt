@@ -29,11 +29,11 @@ pub fn load<S: ParamSet, M: Multiply<S>, W: Source>(
     key: &mut [u32],
     masks: &mut W,
 ) -> Result<Loaded, Refusal>
-    ensures loaded { LoadBy S.ParamSet.params shares secret.now (first_hit (load_tests S.ParamSet.params shares secret.now public.old key.old)) result public.old public.new key.old key.new (W.Source.flow masks.old) (W.Source.flow masks.new) }
-    ensures value { OnOk result (recombined S.ParamSet.params shares key.new ≡ residues_of S.ParamSet.params secret.now) }
-    ensures residues { OnOk result (Residues S.ParamSet.params.p key.new) }
-    ensures public { OnOk result (Residues S.ParamSet.params.p public.new) }
-    ensures loadable { OnOk result (Loadable S.ParamSet.params shares secret.now public.old key.old) }
+    ensures loaded { LoadBy S.params shares secret.now (first_hit (load_tests S.params shares secret.now public.old key.old)) result public.old public.new key.old key.new (W.flow masks.old) (W.flow masks.new) }
+    ensures value { OnOk result (recombined S.params shares key.new ≡ residues_of S.params secret.now) }
+    ensures residues { OnOk result (Residues S.params.p key.new) }
+    ensures public { OnOk result (Residues S.params.p public.new) }
+    ensures loadable { OnOk result (Loadable S.params shares secret.now public.old key.old) }
 {
     check_load::<S>(shares, secret, public, key)?;
     match load_counted::<S, W>(shares, secret, key, masks) {
@@ -58,9 +58,9 @@ impl Card {
         key: &mut [u32],
         masks: &mut W,
     ) -> Result<u64, Refusal>
-        ensures remasked { RemaskBy S.ParamSet.params self.now.shares (first_hit (key_tests S.ParamSet.params self.now.shares key.old)) result key.old key.new (W.Source.flow masks.old) (W.Source.flow masks.new) }
-        ensures same { recombined S.ParamSet.params self.now.shares key.new ≡ recombined S.ParamSet.params self.now.shares key.old }
-        ensures residues { Residues S.ParamSet.params.p key.old → Residues S.ParamSet.params.p key.new }
+        ensures remasked { RemaskBy S.params self.now.shares (first_hit (key_tests S.params self.now.shares key.old)) result key.old key.new (W.flow masks.old) (W.flow masks.new) }
+        ensures same { recombined S.params self.now.shares key.new ≡ recombined S.params self.now.shares key.old }
+        ensures residues { Residues S.params.p key.old → Residues S.params.p key.new }
     {
         check_key::<S>(self.shares, key)?;
         match remask_counted::<S, W>(self.shares, key, masks) {

@@ -24,7 +24,7 @@ fn check_sign<S: ParamSet>(
     work: &[u32],
     record: &[u8],
 ) -> Result<(), Refusal>
-    ensures { TestsSign params shares counter tries key.now public.now work.now «record».now result }
+    ensures { TestsSign S.params shares counter tries key.now public.now work.now «record».now result }
 {
     let n = S::degree();
     let rows = shares as usize * n;
@@ -80,7 +80,7 @@ impl Card {
         nonces: &mut N,
         masks: &mut W,
     ) -> Result<Signed, Refusal>
-        ensures signed { SignBy S.ParamSet.params self.old.shares digest.now tries key.now public.now (first_hit (sign_tests S.ParamSet.params self.old.shares self.old.counter tries key.now public.now work.old «record».old)) result self.old.counter self.new.counter work.old work.new «record».old «record».new (N.Source.flow nonces.old) (N.Source.flow nonces.new) (W.Source.flow masks.old) (W.Source.flow masks.new) }
+        ensures signed { SignBy S.params self.old.shares digest.now tries key.now public.now (first_hit (sign_tests S.params self.old.shares self.old.counter tries key.now public.now work.old «record».old)) result self.old.counter self.new.counter work.old work.new «record».old «record».new (N.flow nonces.old) (N.flow nonces.new) (W.flow masks.old) (W.flow masks.new) }
         ensures shares { self.new.shares ≡ self.old.shares }
         ensures digest { length digest.now ≡ 32 }
     {

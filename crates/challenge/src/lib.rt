@@ -20,7 +20,7 @@ pub enum Sign {
 
 // The position and the sign that a word of the hash tells.
 fn place<S: ParamSet>(word: u16) -> (usize, Sign)
-    ensures { result ≡ place params.n word }
+    ensures { result ≡ place S.params.n word }
 {
     let sign = if word >= 0x8000 {
         Sign::Minus
@@ -31,7 +31,7 @@ fn place<S: ParamSet>(word: u16) -> (usize, Sign)
 }
 
 fn unit<S: ParamSet>(sign: Sign) -> u32
-    ensures { result ≡ unit params.p sign }
+    ensures { result ≡ unit S.params.p sign }
 {
     match sign {
         Sign::Plus => 1,
@@ -57,8 +57,8 @@ fn is_free(coefficient: u32) -> bool
 
 // Takes words of the hash until all positions are found, at most 512.
 fn fill_from<S: ParamSet>(c: &mut [u32], words: &mut Squeezer)
-    requires { length c.old ≡ params.n }
-    ensures { (m : List ℕ) → Reading m 0 words.old → c.new ≡ filled params params.alpha (stream m) c.old }
+    requires { length c.old ≡ S.params.n }
+    ensures { (m : List ℕ) → Reading m 0 words.old → c.new ≡ filled S.params S.params.alpha (stream m) c.old }
 {
     let mut wanted = S::weight();
     'words: for _j in 0..512u32 {
@@ -75,10 +75,10 @@ fn fill_from<S: ParamSet>(c: &mut [u32], words: &mut Squeezer)
 
 // The challenge for a commitment r, a digest and a counter.
 pub fn challenge<S: ParamSet>(c: &mut [u32], r: &[u32], digest: &[u8], counter: u16)
-    requires { length c.old ≡ params.n }
-    ensures is { c.new ≡ challenge params r.now digest.now counter }
-    ensures polynomial { Proper params.n params.p c.new }
-    ensures ternary { All (Ternary params) c.new }
+    requires { length c.old ≡ S.params.n }
+    ensures is { c.new ≡ challenge S.params r.now digest.now counter }
+    ensures polynomial { Proper S.params.n S.params.p c.new }
+    ensures ternary { All (Ternary S.params) c.new }
 {
     let mut hasher = Shake256::new();
     absorb_residues(&mut hasher, r);

@@ -27,15 +27,15 @@ use words::{Mark, Source};
 
 /// What an accepted candidate is below.
 pub fn candidate_limit<S: ParamSet>() -> u32
-    ensures { result ≡ limit params }
+    ensures { result ≡ limit S.params }
 {
     2 * S::nonce_bound() + 1
 }
 
 /// How many low bits of a nonce word make a candidate: as few as can tell all that are accepted.
 pub fn candidate_bits<S: ParamSet>() -> u32
-    ensures is { result ≡ bits params }
-    ensures least { LeastBits (limit params) result }
+    ensures is { result ≡ bits S.params }
+    ensures least { LeastBits (limit S.params) result }
     ensures few { result ≤ 24 }
 {
     let limit = candidate_limit::<S>();
@@ -49,8 +49,8 @@ pub fn candidate_bits<S: ParamSet>() -> u32
 
 // The place of the i-th coefficient of y1 and y2.
 fn at<S: ParamSet>(i: usize) -> Coefficient
-    requires { i < 2 * params.n }
-    ensures { result ≡ at params i }
+    requires { i < 2 * S.params.n }
+    ensures { result ≡ at S.params i }
 {
     let n = S::degree();
     Coefficient {
@@ -65,8 +65,8 @@ fn convert<const M: usize, S: ParamSet, W: Source>(
     masks: &mut W,
 ) -> Result<Shares<M>, Mark>
     requires some { 0 < M }
-    requires below { word_of x < limit S.ParamSet.params }
-    ensures { Spends (mask_words S.ParamSet.params * (M - 1) + (M + 1) * (33 * pairs M)) result (W.Source.flow masks.old) (W.Source.flow masks.new) (λ y. Within (residue_rule S.ParamSet.params.p) y × (residue_of S.ParamSet.params.p y ≡ coefficient S.ParamSet.params (word_of x.entry))) }
+    requires below { word_of x < limit S.params }
+    ensures { Spends (mask_words S.params * (M - 1) + (M + 1) * (33 * pairs M)) result (W.flow masks.old) (W.flow masks.new) (λ y. Within (residue_rule S.params.p) y × (residue_of S.params.p y ≡ coefficient S.params (word_of x.entry))) }
 {
     let ring = ResidueGroup::of::<S>();
     let mut y = to_residues(x, ring, masks)?;
@@ -83,9 +83,9 @@ pub fn draw<const M: usize, S: ParamSet, N: Source, W: Source>(
 ) -> Result<(), Halt>
     requires some { 0 < M }
     requires most { M ≤ 8 }
-    requires sized { length y.old ≡ 2 * M * S.ParamSet.params.n }
-    ensures drawn { (u : Subject) → Draws S.ParamSet.params M u result (recombined S.ParamSet.params M y.new) (N.Source.flow nonces.old) (N.Source.flow nonces.new) (W.Source.flow masks.old) (W.Source.flow masks.new) }
-    ensures residues { OnOk result (Residues S.ParamSet.params.p y.new) }
+    requires sized { length y.old ≡ 2 * M * S.params.n }
+    ensures drawn { (u : Subject) → Draws S.params M u result (recombined S.params M y.new) (N.flow nonces.old) (N.flow nonces.new) (W.flow masks.old) (W.flow masks.new) }
+    ensures residues { OnOk result (Residues S.params.p y.new) }
 {
     let n = S::degree();
     let bits = candidate_bits::<S>();

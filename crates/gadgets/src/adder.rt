@@ -17,7 +17,7 @@ fn widen<const M: usize, S: Source>(
     src: &mut S,
 ) -> Result<(Shares<M>, Shares<M>), Mark>
     requires small { places < 32 }
-    ensures { Spends (3 * pairs M) result (flow src.old) (flow src.new) (λ z. (word_of z.0 ≡ generated places (word_of g.entry) (word_of p.entry)) × (word_of z.1 ≡ propagated places (word_of p.entry))) }
+    ensures { Spends (3 * pairs M) result (S.flow src.old) (S.flow src.new) (λ z. (word_of z.0 ≡ generated places (word_of g.entry) (word_of p.entry)) × (word_of z.1 ≡ propagated places (word_of p.entry))) }
 {
     let carried = sec_and(shift_left(g, places), p, src)?;
     // Both operands of the next sec_and come from p, so one is refreshed.
@@ -32,7 +32,7 @@ pub fn sec_add<const M: usize, S: Source>(
     y: Shares<M>,
     src: &mut S,
 ) -> Result<Shares<M>, Mark>
-    ensures { Spends (14 * pairs M) result (flow src.old) (flow src.new) (λ z. word_of z ≡ (word_of x.entry + word_of y.entry) % 2 ^ 32) }
+    ensures { Spends (14 * pairs M) result (S.flow src.old) (S.flow src.new) (λ z. word_of z ≡ (word_of x.entry + word_of y.entry) % 2 ^ 32) }
 {
     let sum = xor(x, y);
     let mut p = sum;
@@ -56,7 +56,7 @@ pub fn sec_below<const M: usize, S: Source>(
     requires some { 0 < M }
     requires small { word_of x < 2 ^ 31 }
     requires limited { (0 < limit) × (limit < 2 ^ 31) }
-    ensures { Spends (15 * pairs M) result (flow src.old) (flow src.new) (λ z. word_of z ≡ is_below (word_of x.entry) limit) }
+    ensures { Spends (15 * pairs M) result (S.flow src.old) (S.flow src.new) (λ z. word_of z ≡ is_below (word_of x.entry) limit) }
 {
     let minus = fresh(&Words, public(negated(limit)), src)?;
     let difference = sec_add(x, minus, src)?;

@@ -18,7 +18,7 @@ pub fn to_words<const M: usize, S: Source>(
 ) -> Result<Shares<M>, Mark>
     requires some { 0 < M }
     requires within { Within (residue_rule ring.p) x }
-    ensures { Spends (M * (33 * pairs M)) result (flow src.old) (flow src.new) (λ z. word_of z ≡ residue_of ring.p x.entry) }
+    ensures { Spends (M * (33 * pairs M)) result (S.flow src.old) (S.flow src.new) (λ z. word_of z ≡ residue_of ring.p x.entry) }
 {
     let mut sum = [0; M];
     for i in 0..M {
@@ -36,7 +36,7 @@ pub fn to_residues<const M: usize, S: Source>(
 ) -> Result<Shares<M>, Mark>
     requires some { 0 < M }
     requires below { word_of x < ring.p }
-    ensures { Spends ((residue_rule ring.p).cost * (M - 1) + (M + 1) * (33 * pairs M)) result (flow src.old) (flow src.new) (λ z. Within (residue_rule ring.p) z × (residue_of ring.p z ≡ word_of x.entry)) }
+    ensures { Spends ((residue_rule ring.p).cost * (M - 1) + (M + 1) * (33 * pairs M)) result (S.flow src.old) (S.flow src.new) (λ z. Within (residue_rule ring.p) z × (residue_of ring.p z ≡ word_of x.entry)) }
 {
     let mut out = [0; M];
     let mut negatives = [0; M];

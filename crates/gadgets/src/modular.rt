@@ -19,7 +19,7 @@ pub fn sec_add_modp<const M: usize, S: Source>(
     requires some { 0 < M }
     requires first { word_of x < ring.p }
     requires second { word_of y < ring.p }
-    ensures { Spends (32 * pairs M) result (flow src.old) (flow src.new) (λ z. word_of z ≡ (word_of x.entry + word_of y.entry) % ring.p) }
+    ensures { Spends (32 * pairs M) result (S.flow src.old) (S.flow src.new) (λ z. word_of z ≡ (word_of x.entry + word_of y.entry) % ring.p) }
 {
     let sum = sec_add(x, y, src)?;
     let less = sec_add(sum, public(negated(ring.p)), src)?;

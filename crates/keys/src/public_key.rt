@@ -17,7 +17,7 @@ fn zeros<const K: usize>() -> [u32; K]
 // The residues of the secret.
 fn read_secret<S: ParamSet>(out: &mut [u32], secret: &[i8])
     requires { length out.old ≡ length secret.now }
-    ensures { out.new ≡ map (residue params.p) secret.now }
+    ensures { out.new ≡ map (residue S.params.p) secret.now }
 {
     'coefficients: for i in 0..out.len() {
         out[i] = secret_residue::<S>(secret[i]);
@@ -26,10 +26,10 @@ fn read_secret<S: ParamSet>(out: &mut [u32], secret: &[i8])
 
 /// Writes t behind a.
 pub fn publish<S: ParamSet, M: Multiply<S>>(secret: &[i8], public: &mut [u32])
-    requires secret { length secret.now ≡ 2 * S.ParamSet.params.n }
-    requires public { length public.old ≡ 2 * S.ParamSet.params.n }
-    requires a { Residues S.ParamSet.params.p (take S.ParamSet.params.n public.old) }
-    ensures { public.new ≡ public_key S.ParamSet.params secret.now public.old }
+    requires secret { length secret.now ≡ 2 * S.params.n }
+    requires public { length public.old ≡ 2 * S.params.n }
+    requires a { Residues S.params.p (take S.params.n public.old) }
+    ensures { public.new ≡ public_key S.params secret.now public.old }
 {
     let n = S::degree();
     let mut secret_room = zeros::<2048>();

@@ -16,7 +16,7 @@ use words::{Mark, Metered, Source};
 
 /// A key area has its size, and each word is a residue.
 pub fn check_key<S: ParamSet>(shares: u8, key: &[u32]) -> Result<(), Refusal>
-    ensures { TestsKey params shares key.now result }
+    ensures { TestsKey S.params shares key.now result }
 {
     if key.len() != 2 * shares as usize * S::degree() {
         return Err(Refusal::AreaSize);
@@ -41,7 +41,7 @@ fn remask_coefficient<const M: usize, W: Source>(
     requires small { (0 < n) × ((n ≤ 1024) × (M ≤ 8)) }
     requires inside { (c / n + 1) * M * n ≤ length key.old }
     requires within { Within (residue_rule ring.now.p) (shares_of n M key.old c) }
-    ensures refreshed { Refreshed (residue_rule ring.now.p) M result (shares_of n M key.old c) (shares_of n M key.new c) (flow masks.old) (flow masks.new) }
+    ensures refreshed { Refreshed (residue_rule ring.now.p) M result (shares_of n M key.old c) (shares_of n M key.new c) (W.flow masks.old) (W.flow masks.new) }
     ensures others { (k : ℕ) → k ≢ c → shares_of n M key.new k ≡ shares_of n M key.old k }
 {
     let mut shares: [u32; M] = gather(key, n, c);
@@ -56,8 +56,8 @@ fn remask_key<const M: usize, S: ParamSet, W: Source>(
     masks: &mut W,
 ) -> Result<(), Mark>
     requires most { M ≤ 8 }
-    requires area { KeyArea S.ParamSet.params M key.old }
-    ensures { Remasks S.ParamSet.params M result key.old key.new (W.Source.flow masks.old) (W.Source.flow masks.new) }
+    requires area { KeyArea S.params M key.old }
+    ensures { Remasks S.params M result key.old key.new (W.flow masks.old) (W.flow masks.new) }
 {
     let n = S::degree();
     let ring = Residues::of::<S>();
@@ -75,8 +75,8 @@ fn remask_shares<S: ParamSet, W: Source>(
 ) -> Result<(), Mark>
     requires some { 0 < shares }
     requires most { shares ≤ 8 }
-    requires area { KeyArea S.ParamSet.params shares key.old }
-    ensures { Remasks S.ParamSet.params shares result key.old key.new (W.Source.flow masks.old) (W.Source.flow masks.new) }
+    requires area { KeyArea S.params shares key.old }
+    ensures { Remasks S.params shares result key.old key.new (W.flow masks.old) (W.flow masks.new) }
 {
     match shares {
         1 => remask_key::<1, S, W>(key, masks),
@@ -99,9 +99,9 @@ pub fn remask_counted<S: ParamSet, W: Source>(
 ) -> (Result<(), Mark>, u64)
     requires some { 0 < shares }
     requires most { shares ≤ 8 }
-    requires area { KeyArea S.ParamSet.params shares key.old }
-    ensures remasks { Remasks S.ParamSet.params shares result.0 key.old key.new (W.Source.flow masks.old) (W.Source.flow masks.new) }
-    ensures count { result.1 ≡ length (W.Source.flow masks.old).words - length (W.Source.flow masks.new).words }
+    requires area { KeyArea S.params shares key.old }
+    ensures remasks { Remasks S.params shares result.0 key.old key.new (W.flow masks.old) (W.flow masks.new) }
+    ensures count { result.1 ≡ length (W.flow masks.old).words - length (W.flow masks.new).words }
 {
     let mut meter = Metered {
         src: masks,

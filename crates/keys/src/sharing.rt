@@ -41,7 +41,7 @@ pub fn check_load<S: ParamSet>(
     public: &[u32],
     key: &[u32],
 ) -> Result<(), Refusal>
-    ensures { TestsLoad params shares secret.now public.now key.now result }
+    ensures { TestsLoad S.params shares secret.now public.now key.now result }
 {
     let n = S::degree();
     if shares < 1 || shares > 8 {
@@ -64,7 +64,7 @@ pub fn check_load<S: ParamSet>(
 
 // The residue of a secret coefficient.
 pub(crate) fn secret_residue<S: ParamSet>(coefficient: i8) -> u32
-    ensures { result ≡ residue params.p coefficient }
+    ensures { result ≡ residue S.params.p coefficient }
 {
     to_residue::<S>(coefficient as i16)
 }
@@ -89,7 +89,7 @@ fn load_coefficient<const M: usize, W: Source>(
     requires small { (0 < n) × ((n ≤ 1024) × (M ≤ 8)) }
     requires inside { (c / n + 1) * M * n ≤ length key.old }
     requires value { value < ring.now.p }
-    ensures split { Spends ((residue_rule ring.now.p).cost * (M - 1)) result (flow masks.old) (flow masks.new) (λ _. Splits (residue_rule ring.now.p) M (flow masks.old).words value (shares_of n M key.new c)) }
+    ensures split { Spends ((residue_rule ring.now.p).cost * (M - 1)) result (W.flow masks.old) (W.flow masks.new) (λ _. Splits (residue_rule ring.now.p) M (W.flow masks.old).words value (shares_of n M key.new c)) }
     ensures others { (k : ℕ) → k ≢ c → shares_of n M key.new k ≡ shares_of n M key.old k }
 {
     let shares: [u32; M] = split(ring, value, masks)?;
@@ -105,9 +105,9 @@ fn load_key<const M: usize, S: ParamSet, W: Source>(
 ) -> Result<(), Mark>
     requires some { 0 < M }
     requires most { M ≤ 8 }
-    requires secret { length secret.now ≡ 2 * S.ParamSet.params.n }
-    requires sized { length key.old ≡ 2 * M * S.ParamSet.params.n }
-    ensures { Spends (load_cost S.ParamSet.params M) result (W.Source.flow masks.old) (W.Source.flow masks.new) (λ _. Holds S.ParamSet.params M secret.now (W.Source.flow masks.old).words key.new) }
+    requires secret { length secret.now ≡ 2 * S.params.n }
+    requires sized { length key.old ≡ 2 * M * S.params.n }
+    ensures { Spends (load_cost S.params M) result (W.flow masks.old) (W.flow masks.new) (λ _. Holds S.params M secret.now (W.flow masks.old).words key.new) }
 {
     let n = S::degree();
     let ring = Residues::of::<S>();
@@ -127,9 +127,9 @@ fn load_shares<S: ParamSet, W: Source>(
 ) -> Result<(), Mark>
     requires some { 0 < shares }
     requires most { shares ≤ 8 }
-    requires secret { length secret.now ≡ 2 * S.ParamSet.params.n }
-    requires sized { length key.old ≡ 2 * shares * S.ParamSet.params.n }
-    ensures { Spends (load_cost S.ParamSet.params shares) result (W.Source.flow masks.old) (W.Source.flow masks.new) (λ _. Holds S.ParamSet.params shares secret.now (W.Source.flow masks.old).words key.new) }
+    requires secret { length secret.now ≡ 2 * S.params.n }
+    requires sized { length key.old ≡ 2 * shares * S.params.n }
+    ensures { Spends (load_cost S.params shares) result (W.flow masks.old) (W.flow masks.new) (λ _. Holds S.params shares secret.now (W.flow masks.old).words key.new) }
 {
     match shares {
         1 => load_key::<1, S, W>(secret, key, masks),
@@ -153,10 +153,10 @@ pub fn load_counted<S: ParamSet, W: Source>(
 ) -> (Result<(), Mark>, u64)
     requires some { 0 < shares }
     requires most { shares ≤ 8 }
-    requires secret { length secret.now ≡ 2 * S.ParamSet.params.n }
-    requires sized { length key.old ≡ 2 * shares * S.ParamSet.params.n }
-    ensures holds { Spends (load_cost S.ParamSet.params shares) result.0 (W.Source.flow masks.old) (W.Source.flow masks.new) (λ _. Holds S.ParamSet.params shares secret.now (W.Source.flow masks.old).words key.new) }
-    ensures count { result.1 ≡ length (W.Source.flow masks.old).words - length (W.Source.flow masks.new).words }
+    requires secret { length secret.now ≡ 2 * S.params.n }
+    requires sized { length key.old ≡ 2 * shares * S.params.n }
+    ensures holds { Spends (load_cost S.params shares) result.0 (W.flow masks.old) (W.flow masks.new) (λ _. Holds S.params shares secret.now (W.flow masks.old).words key.new) }
+    ensures count { result.1 ≡ length (W.flow masks.old).words - length (W.flow masks.new).words }
 {
     let mut meter = Metered {
         src: masks,

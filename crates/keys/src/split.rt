@@ -14,7 +14,7 @@ fn draw_masks<const M: usize, G: Group, W: Source>(
 ) -> Result<[u32; M], Mark>
     requires some { 0 < M }
     requires most { M ≤ 8 }
-    ensures { Spends ((rule group.now).cost * (M - 1)) result (flow source.old) (flow source.new) (λ xs. (xs ≡ (rule group.now).unit ∷ masks (rule group.now) (M - 1) (flow source.old).words) × Within (rule group.now) xs) }
+    ensures { Spends ((G.rule group.now).cost * (M - 1)) result (W.flow source.old) (W.flow source.new) (λ xs. (xs ≡ (G.rule group.now).unit ∷ masks (G.rule group.now) (M - 1) (W.flow source.old).words) × Within (G.rule group.now) xs) }
 {
     let unit = group.unit();
     let mut shares = [unit; M];
@@ -27,8 +27,8 @@ fn draw_masks<const M: usize, G: Group, W: Source>(
 
 // The value less the sum of the masks.
 fn less<G: Group>(group: &G, value: u32, sum: u32) -> u32
-    requires { (value < (rule group.now).order) × (sum < (rule group.now).order) }
-    ensures { result ≡ (rule group.now).op value ((rule group.now).inverse sum) }
+    requires { (value < (G.rule group.now).order) × (sum < (G.rule group.now).order) }
+    ensures { result ≡ (G.rule group.now).op value ((G.rule group.now).inverse sum) }
 {
     let inverse = group.inverse(sum);
     group.join(value, inverse)
@@ -42,8 +42,8 @@ pub(crate) fn split<const M: usize, G: Group, W: Source>(
 ) -> Result<[u32; M], Mark>
     requires some { 0 < M }
     requires most { M ≤ 8 }
-    requires value { value < (rule group.now).order }
-    ensures { Spends ((rule group.now).cost * (M - 1)) result (flow source.old) (flow source.new) (Splits (rule group.now) M (flow source.old).words value) }
+    requires value { value < (G.rule group.now).order }
+    ensures { Spends ((G.rule group.now).cost * (M - 1)) result (W.flow source.old) (W.flow source.new) (Splits (G.rule group.now) M (W.flow source.old).words value) }
 {
     let mut shares: [u32; M] = draw_masks(group, source)?;
     let sum = recombine(group, shares);

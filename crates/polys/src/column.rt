@@ -10,7 +10,7 @@ use shares::Shares;
 
 /// How many coefficients two polynomials have.
 pub fn coefficients<S: ParamSet>() -> usize
-    ensures { result ≡ 2 * params.n }
+    ensures { result ≡ 2 * S.params.n }
 {
     2 * S::degree()
 }
@@ -42,10 +42,10 @@ pub fn gather<const M: usize>(area: &[u32], n: usize, c: usize) -> Shares<M>
 /// The shares of coefficient c of an area of residues.
 pub fn coefficient<const M: usize, S: ParamSet>(area: &[u32], c: usize) -> Shares<M>
     requires most { M ≤ 8 }
-    requires inside { (c / params.n + 1) * M * params.n ≤ length area.now }
-    requires residues { Residues params.p area.now }
-    ensures shares { result ≡ shares_of params.n M area.now c }
-    ensures within { Within (residue_rule params.p) result }
+    requires inside { (c / S.params.n + 1) * M * S.params.n ≤ length area.now }
+    requires residues { Residues S.params.p area.now }
+    ensures shares { result ≡ shares_of S.params.n M area.now c }
+    ensures within { Within (residue_rule S.params.p) result }
 {
     gather::<M>(area, S::degree(), c)
 }

@@ -9,11 +9,11 @@ use ring::{Multiply, add_assign};
 
 /// a·b + c.
 pub fn multiply_add<S: ParamSet, P: Multiply<S>>(out: &mut [u32], a: &[u32], b: &[u32], c: &[u32])
-    requires room { length out.old ≡ S.ParamSet.params.n }
-    requires a { Proper S.ParamSet.params.n S.ParamSet.params.p a.now }
-    requires b { Proper S.ParamSet.params.n S.ParamSet.params.p b.now }
-    requires c { Proper S.ParamSet.params.n S.ParamSet.params.p c.now }
-    ensures { out.new ≡ plus S.ParamSet.params.p (product S.ParamSet.params.p a.now b.now) c.now }
+    requires room { length out.old ≡ S.params.n }
+    requires a { Proper S.params.n S.params.p a.now }
+    requires b { Proper S.params.n S.params.p b.now }
+    requires c { Proper S.params.n S.params.p c.now }
+    ensures { out.new ≡ plus S.params.p (product S.params.p a.now b.now) c.now }
 {
     P::multiply(out, a, b);
     add_assign::<S>(out, c);
@@ -31,12 +31,12 @@ fn row(area: &[u32], n: usize, j: usize) -> &[u32]
 pub fn commit_rows<const M: usize, S: ParamSet, P: Multiply<S>>(r: &mut [u32], a: &[u32], y: &[u32])
     requires some { 0 < M }
     requires most { M ≤ 8 }
-    requires r { length r.old ≡ M * S.ParamSet.params.n }
-    requires a { Proper S.ParamSet.params.n S.ParamSet.params.p a.now }
-    requires y { length y.now ≡ 2 * M * S.ParamSet.params.n }
-    requires residues { Residues S.ParamSet.params.p y.now }
-    ensures value { values S.ParamSet.params M S.ParamSet.params.n r.new ≡ plus S.ParamSet.params.p (product S.ParamSet.params.p a.now (take S.ParamSet.params.n (recombined S.ParamSet.params M y.now))) (drop S.ParamSet.params.n (recombined S.ParamSet.params M y.now)) }
-    ensures residues { Residues S.ParamSet.params.p r.new }
+    requires r { length r.old ≡ M * S.params.n }
+    requires a { Proper S.params.n S.params.p a.now }
+    requires y { length y.now ≡ 2 * M * S.params.n }
+    requires residues { Residues S.params.p y.now }
+    ensures value { values S.params M S.params.n r.new ≡ plus S.params.p (product S.params.p a.now (take S.params.n (recombined S.params M y.now))) (drop S.params.n (recombined S.params M y.now)) }
+    ensures residues { Residues S.params.p r.new }
 {
     let n = S::degree();
     'shares: for i in 0..M {
@@ -53,11 +53,11 @@ pub fn respond_rows<const M: usize, S: ParamSet, P: Multiply<S>>(
 )
     requires some { 0 < M }
     requires most { M ≤ 8 }
-    requires sized { (length z.old ≡ 2 * M * S.ParamSet.params.n) × ((length key.now ≡ 2 * M * S.ParamSet.params.n) × (length y.now ≡ 2 * M * S.ParamSet.params.n)) }
-    requires residues { (Residues S.ParamSet.params.p key.now) × (Residues S.ParamSet.params.p y.now) }
-    requires c { Proper S.ParamSet.params.n S.ParamSet.params.p c.now }
-    ensures value { recombined S.ParamSet.params M z.new ≡ plus S.ParamSet.params.p (product S.ParamSet.params.p (take S.ParamSet.params.n (recombined S.ParamSet.params M key.now)) c.now) (take S.ParamSet.params.n (recombined S.ParamSet.params M y.now)) ++ plus S.ParamSet.params.p (product S.ParamSet.params.p (drop S.ParamSet.params.n (recombined S.ParamSet.params M key.now)) c.now) (drop S.ParamSet.params.n (recombined S.ParamSet.params M y.now)) }
-    ensures residues { Residues S.ParamSet.params.p z.new }
+    requires sized { (length z.old ≡ 2 * M * S.params.n) × ((length key.now ≡ 2 * M * S.params.n) × (length y.now ≡ 2 * M * S.params.n)) }
+    requires residues { (Residues S.params.p key.now) × (Residues S.params.p y.now) }
+    requires c { Proper S.params.n S.params.p c.now }
+    ensures value { recombined S.params M z.new ≡ plus S.params.p (product S.params.p (take S.params.n (recombined S.params M key.now)) c.now) (take S.params.n (recombined S.params M y.now)) ++ plus S.params.p (product S.params.p (drop S.params.n (recombined S.params M key.now)) c.now) (drop S.params.n (recombined S.params M y.now)) }
+    ensures residues { Residues S.params.p z.new }
 {
     let n = S::degree();
     'rows: for j in 0..2 * M {

@@ -20,9 +20,9 @@ pub fn open_coefficient<const M: usize, S: ParamSet, W: Source>(
 ) -> Result<u32, Mark>
     requires some { 0 < M }
     requires most { M ≤ 8 }
-    requires inside { (c / S.ParamSet.params.n + 1) * M * S.ParamSet.params.n ≤ length area.now }
-    requires residues { Residues S.ParamSet.params.p area.now }
-    ensures { Spends ((residue_rule S.ParamSet.params.p).cost * pairs M) result (W.Source.flow masks.old) (W.Source.flow masks.new) (λ v. v ≡ recombine (residue_rule S.ParamSet.params.p) (shares_of S.ParamSet.params.n M area.now c)) }
+    requires inside { (c / S.params.n + 1) * M * S.params.n ≤ length area.now }
+    requires residues { Residues S.params.p area.now }
+    ensures { Spends ((residue_rule S.params.p).cost * pairs M) result (W.flow masks.old) (W.flow masks.new) (λ v. v ≡ recombine (residue_rule S.params.p) (shares_of S.params.n M area.now c)) }
 {
     let ring = shares::Residues::of::<S>();
     let shares = coefficient::<M, S>(area, c);
@@ -37,11 +37,11 @@ pub fn open_poly<const M: usize, S: ParamSet, W: Source>(
 ) -> Result<(), Mark>
     requires some { 0 < M }
     requires most { M ≤ 8 }
-    requires out { length out.old ≡ S.ParamSet.params.n }
-    requires r { length r.now ≡ M * S.ParamSet.params.n }
-    requires residues { Residues S.ParamSet.params.p r.now }
-    ensures opened { Spends (S.ParamSet.params.n * ((residue_rule S.ParamSet.params.p).cost * pairs M)) result (W.Source.flow masks.old) (W.Source.flow masks.new) (λ _. out.new ≡ values S.ParamSet.params M S.ParamSet.params.n r.now) }
-    ensures residues { OnOk result (Residues S.ParamSet.params.p out.new) }
+    requires out { length out.old ≡ S.params.n }
+    requires r { length r.now ≡ M * S.params.n }
+    requires residues { Residues S.params.p r.now }
+    ensures opened { Spends (S.params.n * ((residue_rule S.params.p).cost * pairs M)) result (W.flow masks.old) (W.flow masks.new) (λ _. out.new ≡ values S.params M S.params.n r.now) }
+    ensures residues { OnOk result (Residues S.params.p out.new) }
 {
     'coefficients: for c in 0..S::degree() {
         out[c] = open_coefficient::<M, S, W>(r, c, masks)?;

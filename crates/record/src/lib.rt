@@ -17,7 +17,7 @@ pub use writer::write;
 
 // How many bytes a record of the set has.
 pub fn size<S: ParamSet>() -> usize
-    ensures { result ≡ size params }
+    ensures { result ≡ size S.params }
 {
     let n = S::degree();
     40 + 4 * n + n / 4
@@ -25,7 +25,7 @@ pub fn size<S: ParamSet>() -> usize
 
 // The two bytes that tell a record's set.
 pub fn kind<S: ParamSet>() -> u16
-    ensures { result ≡ kind params }
+    ensures { result ≡ kind S.params }
 {
     0x4700 + S::set_number() as u16
 }

@@ -34,14 +34,14 @@ fn read_head(bytes: &[u8]) -> Option<Head<'_>>
 
 // The coefficient in two bytes lies too far from 0.
 fn is_far<S: ParamSet>(low: u8, high: u8) -> bool
-    ensures { result ≡ far params (to_z w16 (low + high * 256)) }
+    ensures { result ≡ far S.params (to_z w16 (low + high * 256)) }
 {
     i16::from_le_bytes([low, high]).unsigned_abs() as u32 > S::reach()
 }
 
 // The first coefficient of z that lies too far from 0.
 fn first_far<S: ParamSet>(z: &[u8]) -> Option<usize>
-    ensures { result ≡ first-at (far params) (z_of z.now) }
+    ensures { result ≡ first-at (far S.params) (z_of z.now) }
 {
     'coefficients: for i in 0..z.len() / 2 {
         if is_far::<S>(z[2 * i], z[2 * i + 1]) {
@@ -74,7 +74,7 @@ fn first_unused(challenge: &[u8]) -> Option<usize>
 
 // What stands behind the kind, once length and kind are those of the set.
 fn open_body<S: ParamSet>(bytes: &[u8]) -> Result<&[u8], Refusal>
-    ensures { Opens params bytes.now result }
+    ensures { Opens S.params bytes.now result }
 {
     let Some(
         Head {
@@ -97,11 +97,11 @@ fn open_body<S: ParamSet>(bytes: &[u8]) -> Result<&[u8], Refusal>
 
 // The parts of a body, each where it lies.
 fn split_body<S: ParamSet>(body: &[u8]) -> Record<'_>
-    requires { length body.now + 6 ≡ size params }
+    requires { length body.now + 6 ≡ size S.params }
     ensures counter { result.counter ≡ num2 body.now 0 }
     ensures digest { result.digest.now ≡ take 32 (drop 2 body.now) }
-    ensures z { result.z.now ≡ take (4 * params.n) (drop 34 body.now) }
-    ensures challenge { result.challenge.now ≡ drop (34 + 4 * params.n) body.now }
+    ensures z { result.z.now ≡ take (4 * S.params.n) (drop 34 body.now) }
+    ensures challenge { result.challenge.now ≡ drop (34 + 4 * S.params.n) body.now }
 {
     let z_end = 34 + 4 * S::degree();
     Record {
@@ -114,7 +114,7 @@ fn split_body<S: ParamSet>(body: &[u8]) -> Record<'_>
 
 // A record's parts, or the first refusal.
 pub fn read<S: ParamSet>(bytes: &[u8]) -> Result<Record<'_>, Refusal>
-    ensures { Reads params bytes.now result }
+    ensures { Reads S.params bytes.now result }
 {
     let body = open_body::<S>(bytes)?;
     let record = split_body::<S>(body);

@@ -9,7 +9,7 @@ use refusal::Refusal;
 
 // Length, kind and counter.
 fn head<S: ParamSet>(counter: u16) -> [u8; 8]
-    ensures { result ≡ le4 (size params - 4) ++ (le2 (kind params) ++ le2 counter) }
+    ensures { result ≡ le4 (size S.params - 4) ++ (le2 (kind S.params) ++ le2 counter) }
 {
     let [l0, l1, l2, l3] = ((size::<S>() - 4) as u32).to_le_bytes();
     let [k0, k1] = kind::<S>().to_le_bytes();
@@ -60,14 +60,14 @@ fn write_challenge(part: &mut [u8], c: &[u32])
 
 // Where the challenge begins.
 fn challenge_start<S: ParamSet>() -> usize
-    ensures { result ≡ 40 + 4 * params.n }
+    ensures { result ≡ 40 + 4 * S.params.n }
 {
     40 + 4 * S::degree()
 }
 
 // The sizes of the area and of both parts are those of the set.
 fn sizes_fit<S: ParamSet>(area: usize, z: usize, c: usize) -> bool
-    ensures { result ≡ (area == size params && (z == 2 * params.n && c == params.n)) }
+    ensures { result ≡ (area == size S.params && (z == 2 * S.params.n && c == S.params.n)) }
 {
     let n = S::degree();
     area == size::<S>() && z == 2 * n && c == n
@@ -81,9 +81,9 @@ pub fn write<S: ParamSet>(
     z: &[i16],
     c: &[u32],
 ) -> Result<(), Refusal>
-    ensures answer { result ≡ answered params out.old (content_of counter digest.now z.now c.now) }
-    ensures after { out.new ≡ left_in params out.old (content_of counter digest.now z.now c.now) }
-    ensures reads_back { ReadsBack params (content_of counter digest.now z.now c.now) result out.new }
+    ensures answer { result ≡ answered S.params out.old (content_of counter digest.now z.now c.now) }
+    ensures after { out.new ≡ left_in S.params out.old (content_of counter digest.now z.now c.now) }
+    ensures reads_back { ReadsBack S.params (content_of counter digest.now z.now c.now) result out.new }
 {
     if !sizes_fit::<S>(out.len(), z.len(), c.len()) {
         return Err(Refusal::AreaSize);

@@ -23,9 +23,9 @@ use words::{Mark, Source};
 fn pass<const M: usize, S: ParamSet, W: Source>(z: &[u32], masks: &mut W) -> Result<Shares<M>, Mark>
     requires some { 0 < M }
     requires most { M ≤ 8 }
-    requires sized { length z.now ≡ 2 * M * S.ParamSet.params.n }
-    requires residues { Residues S.ParamSet.params.p z.now }
-    ensures { Spends (2 * S.ParamSet.params.n * ((33 * M + 16) * pairs M)) result (W.Source.flow masks.old) (W.Source.flow masks.new) (λ q. word_of q ≡ pass_bit (all_near S.ParamSet.params (map (centre S.ParamSet.params.p) (recombined S.ParamSet.params M z.now)))) }
+    requires sized { length z.now ≡ 2 * M * S.params.n }
+    requires residues { Residues S.params.p z.now }
+    ensures { Spends (2 * S.params.n * ((33 * M + 16) * pairs M)) result (W.flow masks.old) (W.flow masks.new) (λ q. word_of q ≡ pass_bit (all_near S.params (map (centre S.params.p) (recombined S.params M z.now)))) }
 {
     let ring = shares::Residues::of::<S>();
     let mut pass = public(1);
@@ -40,9 +40,9 @@ fn pass<const M: usize, S: ParamSet, W: Source>(z: &[u32], masks: &mut W) -> Res
 pub fn check<const M: usize, S: ParamSet, W: Source>(z: &[u32], masks: &mut W) -> Result<bool, Mark>
     requires some { 0 < M }
     requires most { M ≤ 8 }
-    requires sized { length z.now ≡ 2 * M * S.ParamSet.params.n }
-    requires residues { Residues S.ParamSet.params.p z.now }
-    ensures { Spends (2 * S.ParamSet.params.n * ((33 * M + 16) * pairs M) + pairs M) result (W.Source.flow masks.old) (W.Source.flow masks.new) (λ b. b ≡ all_near S.ParamSet.params (map (centre S.ParamSet.params.p) (recombined S.ParamSet.params M z.now))) }
+    requires sized { length z.now ≡ 2 * M * S.params.n }
+    requires residues { Residues S.params.p z.now }
+    ensures { Spends (2 * S.params.n * ((33 * M + 16) * pairs M) + pairs M) result (W.flow masks.old) (W.flow masks.new) (λ b. b ≡ all_near S.params (map (centre S.params.p) (recombined S.params M z.now))) }
 {
     let shares = pass::<M, S, W>(z, masks)?;
     let bit = open(&Words, shares, masks)?;
@@ -57,10 +57,10 @@ fn open_centred<const M: usize, S: ParamSet, W: Source>(
 ) -> Result<i16, Mark>
     requires some { 0 < M }
     requires most { M ≤ 8 }
-    requires inside { (c / S.ParamSet.params.n + 1) * M * S.ParamSet.params.n ≤ length z.now }
-    requires residues { Residues S.ParamSet.params.p z.now }
-    requires near { unsigned_abs (centre S.ParamSet.params.p (recombine (residue_rule S.ParamSet.params.p) (shares_of S.ParamSet.params.n M z.now c))) < 2 ^ 15 }
-    ensures { Spends ((residue_rule S.ParamSet.params.p).cost * pairs M) result (W.Source.flow masks.old) (W.Source.flow masks.new) (λ v. v ≡ centre S.ParamSet.params.p (recombine (residue_rule S.ParamSet.params.p) (shares_of S.ParamSet.params.n M z.now c))) }
+    requires inside { (c / S.params.n + 1) * M * S.params.n ≤ length z.now }
+    requires residues { Residues S.params.p z.now }
+    requires near { unsigned_abs (centre S.params.p (recombine (residue_rule S.params.p) (shares_of S.params.n M z.now c))) < 2 ^ 15 }
+    ensures { Spends ((residue_rule S.params.p).cost * pairs M) result (W.flow masks.old) (W.flow masks.new) (λ v. v ≡ centre S.params.p (recombine (residue_rule S.params.p) (shares_of S.params.n M z.now c))) }
 {
     let value = open_coefficient::<M, S, W>(z, c, masks)?;
     Ok(centred::<S>(value) as i16)
@@ -74,11 +74,11 @@ pub fn open_response<const M: usize, S: ParamSet, W: Source>(
 ) -> Result<(), Mark>
     requires some { 0 < M }
     requires most { M ≤ 8 }
-    requires sized { length z.now ≡ 2 * M * S.ParamSet.params.n }
-    requires residues { Residues S.ParamSet.params.p z.now }
-    requires out { length out.old ≡ 2 * S.ParamSet.params.n }
-    requires near { all_near S.ParamSet.params (map (centre S.ParamSet.params.p) (recombined S.ParamSet.params M z.now)) ≡ true }
-    ensures { Spends (2 * S.ParamSet.params.n * ((residue_rule S.ParamSet.params.p).cost * pairs M)) result (W.Source.flow masks.old) (W.Source.flow masks.new) (λ _. out.new ≡ map (centre S.ParamSet.params.p) (recombined S.ParamSet.params M z.now)) }
+    requires sized { length z.now ≡ 2 * M * S.params.n }
+    requires residues { Residues S.params.p z.now }
+    requires out { length out.old ≡ 2 * S.params.n }
+    requires near { all_near S.params (map (centre S.params.p) (recombined S.params M z.now)) ≡ true }
+    ensures { Spends (2 * S.params.n * ((residue_rule S.params.p).cost * pairs M)) result (W.flow masks.old) (W.flow masks.new) (λ _. out.new ≡ map (centre S.params.p) (recombined S.params M z.now)) }
 {
     'coefficients: for c in 0..coefficients::<S>() {
         out[c] = open_centred::<M, S, W>(z, c, masks)?;

@@ -20,8 +20,8 @@ pub fn laws_hold() -> u8
 
 // The integer nearest 0 that a residue stands for.
 pub fn centred<S: ParamSet>(v: u32) -> i32
-    requires { v < params.p }
-    ensures { result ≡ centre params.p v }
+    requires { v < S.params.p }
+    ensures { result ≡ centre S.params.p v }
 {
     let p = S::modulus();
     if v <= (p - 1) / 2 {
@@ -33,7 +33,7 @@ pub fn centred<S: ParamSet>(v: u32) -> i32
 
 // The residue of an integer.
 pub fn to_residue<S: ParamSet>(z: i16) -> u32
-    ensures { result ≡ residue params.p z }
+    ensures { result ≡ residue S.params.p z }
 {
     let size = z.unsigned_abs() as u32;
     if z < 0 {
@@ -44,7 +44,7 @@ pub fn to_residue<S: ParamSet>(z: i16) -> u32
 }
 
 fn negated<S: ParamSet>(x: u32) -> u32
-    ensures { result ≡ negate params.p x }
+    ensures { result ≡ negate S.params.p x }
 {
     let p = S::modulus();
     (p - x % p) % p
@@ -52,32 +52,32 @@ fn negated<S: ParamSet>(x: u32) -> u32
 
 // A sum below 2p, reduced by one subtraction at most.
 fn reduce_once<S: ParamSet>(sum: u32) -> u32
-    ensures { result ≡ (if nat_le params.p sum then sum - params.p else sum) }
+    ensures { result ≡ (if nat_le S.params.p sum then sum - S.params.p else sum) }
 {
     let p = S::modulus();
     if sum >= p { sum - p } else { sum }
 }
 
 fn add<S: ParamSet>(x: u32, y: u32) -> u32
-    requires { (x < params.p) × (y < params.p) }
-    ensures { result ≡ (x + y) % params.p }
+    requires { (x < S.params.p) × (y < S.params.p) }
+    ensures { result ≡ (x + y) % S.params.p }
 {
     reduce_once::<S>(x + y)
 }
 
 fn sub<S: ParamSet>(x: u32, y: u32) -> u32
-    requires { (x < params.p) × (y < params.p) }
-    ensures { result ≡ (x + (params.p - y)) % params.p }
+    requires { (x < S.params.p) × (y < S.params.p) }
+    ensures { result ≡ (x + (S.params.p - y)) % S.params.p }
 {
     reduce_once::<S>(x + (S::modulus() - y))
 }
 
 // Adds the polynomial x to acc.
 pub fn add_assign<S: ParamSet>(acc: &mut [u32], x: &[u32])
-    requires lengths { (length acc.old ≡ params.n) × (length x.now ≡ params.n) }
-    requires residues { (Residues params.p acc.old) × (Residues params.p x.now) }
-    ensures value { acc.new ≡ plus params.p acc.old x.now }
-    ensures residues { Residues params.p acc.new }
+    requires lengths { (length acc.old ≡ S.params.n) × (length x.now ≡ S.params.n) }
+    requires residues { (Residues S.params.p acc.old) × (Residues S.params.p x.now) }
+    ensures value { acc.new ≡ plus S.params.p acc.old x.now }
+    ensures residues { Residues S.params.p acc.new }
 {
     for i in 0..acc.len() {
         acc[i] = add::<S>(acc[i], x[i]);
@@ -86,10 +86,10 @@ pub fn add_assign<S: ParamSet>(acc: &mut [u32], x: &[u32])
 
 // Takes the polynomial x from acc.
 pub fn sub_assign<S: ParamSet>(acc: &mut [u32], x: &[u32])
-    requires lengths { (length acc.old ≡ params.n) × (length x.now ≡ params.n) }
-    requires residues { (Residues params.p acc.old) × (Residues params.p x.now) }
-    ensures value { acc.new ≡ minus params.p acc.old x.now }
-    ensures residues { Residues params.p acc.new }
+    requires lengths { (length acc.old ≡ S.params.n) × (length x.now ≡ S.params.n) }
+    requires residues { (Residues S.params.p acc.old) × (Residues S.params.p x.now) }
+    ensures value { acc.new ≡ minus S.params.p acc.old x.now }
+    ensures residues { Residues S.params.p acc.new }
 {
     for i in 0..acc.len() {
         acc[i] = sub::<S>(acc[i], x[i]);
@@ -99,10 +99,10 @@ pub fn sub_assign<S: ParamSet>(acc: &mut [u32], x: &[u32])
 // A way to multiply two polynomials of the set S.
 pub trait Multiply<S: ParamSet> {
     fn multiply(out: &mut [u32], a: &[u32], b: &[u32])
-        requires lengths { (length out.old ≡ S.ParamSet.params.n) × ((length a.now ≡ S.ParamSet.params.n) × (length b.now ≡ S.ParamSet.params.n)) }
-        requires residues { (Residues S.ParamSet.params.p a.now) × (Residues S.ParamSet.params.p b.now) }
-        ensures value { out.new ≡ product S.ParamSet.params.p a.now b.now }
-        ensures residues { Residues S.ParamSet.params.p out.new };
+        requires lengths { (length out.old ≡ S.params.n) × ((length a.now ≡ S.params.n) × (length b.now ≡ S.params.n)) }
+        requires residues { (Residues S.params.p a.now) × (Residues S.params.p b.now) }
+        ensures value { out.new ≡ product S.params.p a.now b.now }
+        ensures residues { Residues S.params.p out.new };
 }
 
 // acc + k · x, with no reduction.
@@ -139,7 +139,7 @@ fn shift_in(b: &mut [u32], c: u32)
 // x times a polynomial.
 fn times_x<S: ParamSet>(b: &mut [u32])
     requires { 0 < length b.old }
-    ensures { b.new ≡ times_x params.p b.old }
+    ensures { b.new ≡ times_x S.params.p b.old }
 {
     let top = last(b);
     shift_in(b, negated::<S>(top));
@@ -147,10 +147,10 @@ fn times_x<S: ParamSet>(b: &mut [u32])
 
 // Sums a's coefficients times b, x · b, x² · b and so on. A sum of n products stays below 2⁵⁸, so it is reduced once, at the end.
 fn accumulate<S: ParamSet>(acc: &mut [u64], a: &[u32], b: &mut [u32])
-    requires lengths { (length acc.old ≡ params.n) × ((length a.now ≡ params.n) × (length b.old ≡ params.n)) }
-    requires residues { (Residues params.p a.now) × (Residues params.p b.old) }
+    requires lengths { (length acc.old ≡ S.params.n) × ((length a.now ≡ S.params.n) × (length b.old ≡ S.params.n)) }
+    requires residues { (Residues S.params.p a.now) × (Residues S.params.p b.old) }
     requires empty { acc.old ≡ zeros acc.old }
-    ensures { reduced params.p acc.new ≡ product params.p a.now b.old }
+    ensures { reduced S.params.p acc.new ≡ product S.params.p a.now b.old }
 {
     for i in 0..a.len() {
         add_scaled(acc, a[i], b);
@@ -160,8 +160,8 @@ fn accumulate<S: ParamSet>(acc: &mut [u64], a: &[u32], b: &mut [u32])
 
 fn reduce<S: ParamSet>(out: &mut [u32], sums: &[u64])
     requires { length out.old ≡ length sums.now }
-    ensures value { out.new ≡ reduced params.p sums.now }
-    ensures residues { Residues params.p out.new }
+    ensures value { out.new ≡ reduced S.params.p sums.now }
+    ensures residues { Residues S.params.p out.new }
 {
     for i in 0..out.len() {
         out[i] = (sums[i] % S::modulus() as u64) as u32;

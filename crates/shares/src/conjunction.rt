@@ -24,7 +24,7 @@ pub fn sec_and<const M: usize, S: Source>(
     y: Shares<M>,
     src: &mut S,
 ) -> Result<Shares<M>, Mark>
-    ensures { Spends (pairs M) result (flow src.old) (flow src.new) (λ z. (z ≡ conjoined M x.entry y.entry (flow src.old).words) × (word_of z ≡ bit_and (word_of x.entry) (word_of y.entry))) }
+    ensures { Spends (pairs M) result (S.flow src.old) (S.flow src.new) (λ z. (z ≡ conjoined M x.entry y.entry (S.flow src.old).words) × (word_of z ≡ bit_and (word_of x.entry) (word_of y.entry))) }
 {
     let mut out = share_products(x, y);
     for i in 0..M {

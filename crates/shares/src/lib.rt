@@ -40,7 +40,7 @@ pub trait Group {
 
     // An element made of the next words of a source.
     fn mask<S: Source>(&self, src: &mut S) -> Result<u32, Mark>
-        ensures { Spends (rule self.now).cost result (flow src.old) (flow src.new) (Masks (rule self.now) (flow src.old).words) };
+        ensures { Spends (rule self.now).cost result (S.flow src.old) (S.flow src.new) (Masks (rule self.now) (S.flow src.old).words) };
 }
 
 // Joins one mask to share i, and its inverse to share j.
@@ -54,8 +54,8 @@ fn refresh_pair<const M: usize, G: Group, S: Source>(
     requires sized { length shares.old ≡ M }
     requires rising { i < j }
     requires inside { j < M }
-    requires within { Within (rule g.now) shares.old }
-    ensures { Pair (rule g.now) i j result shares.old shares.new (flow src.old) (flow src.new) }
+    requires within { Within (G.rule g.now) shares.old }
+    ensures { Pair (G.rule g.now) i j result shares.old shares.new (S.flow src.old) (S.flow src.new) }
 {
     let mask = g.mask(src)?;
     let a = g.join(shares[i], mask);
@@ -74,8 +74,8 @@ pub fn refresh<const M: usize, G: Group, S: Source>(
     src: &mut S,
 ) -> Result<(), Mark>
     requires sized { length shares.old ≡ M }
-    requires within { Within (rule g.now) shares.old }
-    ensures { Refreshed (rule g.now) M result shares.old shares.new (flow src.old) (flow src.new) }
+    requires within { Within (G.rule g.now) shares.old }
+    ensures { Refreshed (G.rule g.now) M result shares.old shares.new (S.flow src.old) (S.flow src.new) }
 {
     for i in 0..M {
         for j in i + 1..M {
@@ -91,8 +91,8 @@ pub fn fresh<const M: usize, G: Group, S: Source>(
     shares: Shares<M>,
     src: &mut S,
 ) -> Result<Shares<M>, Mark>
-    requires within { Within (rule g.now) shares }
-    ensures { Spends ((rule g.now).cost * pairs M) result (flow src.old) (flow src.new) (λ z. (z ≡ refreshed (rule g.now) (rows 0 M) (flow src.old).words shares.entry) × Within (rule g.now) z × (recombine (rule g.now) z ≡ recombine (rule g.now) shares.entry)) }
+    requires within { Within (G.rule g.now) shares }
+    ensures { Spends ((G.rule g.now).cost * pairs M) result (S.flow src.old) (S.flow src.new) (λ z. (z ≡ refreshed (G.rule g.now) (rows 0 M) (S.flow src.old).words shares.entry) × Within (G.rule g.now) z × (recombine (G.rule g.now) z ≡ recombine (G.rule g.now) shares.entry)) }
 {
     let mut out = shares;
     refresh(g, &mut out, src)?;

@@ -9,8 +9,8 @@ use words::{Mark, Source};
 
 /// The value that the shares stand for.
 pub fn recombine<const M: usize, G: Group>(g: &G, shares: Shares<M>) -> u32
-    requires within { Within (rule g.now) shares }
-    ensures { result ≡ recombine (rule g.now) shares.entry }
+    requires within { Within (G.rule g.now) shares }
+    ensures { result ≡ recombine (G.rule g.now) shares.entry }
 {
     let mut value = g.unit();
     for i in 0..M {
@@ -26,8 +26,8 @@ pub fn open<const M: usize, G: Group, S: Source>(
     src: &mut S,
 ) -> Result<u32, Mark>
     requires some { 0 < M }
-    requires within { Within (rule g.now) shares }
-    ensures { Spends ((rule g.now).cost * pairs M) result (flow src.old) (flow src.new) (λ v. v ≡ recombine (rule g.now) shares.entry) }
+    requires within { Within (G.rule g.now) shares }
+    ensures { Spends ((G.rule g.now).cost * pairs M) result (S.flow src.old) (S.flow src.new) (λ v. v ≡ recombine (G.rule g.now) shares.entry) }
 {
     let shares = fresh(g, shares, src)?;
     Ok(recombine(g, shares))

@@ -12,7 +12,7 @@ pub struct Residues {
 
 impl Residues {
     pub fn of<S: ParamSet>() -> Residues
-        ensures { result.p ≡ S.ParamSet.params.p }
+        ensures { result.p ≡ S.params.p }
     {
         Residues { p: S::modulus() }
     }

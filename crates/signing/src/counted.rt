@@ -30,11 +30,11 @@ fn sign_shares<S: ParamSet, P: Multiply<S>, N: Source, W: Source>(
     requires some { 0 < shares }
     requires most { shares ≤ 8 }
     requires tries { 0 < tries }
-    requires key { (length key.now ≡ 2 * shares * S.ParamSet.params.n) × (Residues S.ParamSet.params.p key.now) }
-    requires a { Proper S.ParamSet.params.n S.ParamSet.params.p a.now }
-    requires work { length work.old ≡ 6 * shares * S.ParamSet.params.n }
-    requires record { length «record».old ≡ size S.ParamSet.params }
-    ensures { Follows S.ParamSet.params shares tries result «record».old «record».new (N.Source.flow nonces.old) (N.Source.flow nonces.new) (W.Source.flow masks.old) (W.Source.flow masks.new) (plain_run S.ParamSet.params shares (subject_of S.ParamSet.params shares a.now key.now digest.now counter) tries (N.Source.flow nonces.old) (W.Source.flow masks.old)) }
+    requires key { (length key.now ≡ 2 * shares * S.params.n) × (Residues S.params.p key.now) }
+    requires a { Proper S.params.n S.params.p a.now }
+    requires work { length work.old ≡ 6 * shares * S.params.n }
+    requires record { length «record».old ≡ size S.params }
+    ensures { Follows S.params shares tries result «record».old «record».new (N.flow nonces.old) (N.flow nonces.new) (W.flow masks.old) (W.flow masks.new) (plain_run S.params shares (subject_of S.params shares a.now key.now digest.now counter) tries (N.flow nonces.old) (W.flow masks.old)) }
 {
     match shares {
         1 => sign_in::<1, S, P, N, W>(tries, key, a, digest, counter, work, record, nonces, masks),
@@ -77,12 +77,12 @@ pub fn sign_counted<S: ParamSet, P: Multiply<S>, N: Source, W: Source>(
     requires some { 0 < shares }
     requires most { shares ≤ 8 }
     requires tries { 0 < tries }
-    requires key { (length key.now ≡ 2 * shares * S.ParamSet.params.n) × (Residues S.ParamSet.params.p key.now) }
-    requires a { Proper S.ParamSet.params.n S.ParamSet.params.p a.now }
-    requires work { length work.old ≡ 6 * shares * S.ParamSet.params.n }
-    requires record { length «record».old ≡ size S.ParamSet.params }
-    ensures follows { Follows S.ParamSet.params shares tries result.0 «record».old «record».new (N.Source.flow nonces.old) (N.Source.flow nonces.new) (W.Source.flow masks.old) (W.Source.flow masks.new) (plain_run S.ParamSet.params shares (subject_of S.ParamSet.params shares a.now key.now digest.now counter) tries (N.Source.flow nonces.old) (W.Source.flow masks.old)) }
-    ensures counts { result.1 ≡ counts_of (plain_run S.ParamSet.params shares (subject_of S.ParamSet.params shares a.now key.now digest.now counter) tries (N.Source.flow nonces.old) (W.Source.flow masks.old)) }
+    requires key { (length key.now ≡ 2 * shares * S.params.n) × (Residues S.params.p key.now) }
+    requires a { Proper S.params.n S.params.p a.now }
+    requires work { length work.old ≡ 6 * shares * S.params.n }
+    requires record { length «record».old ≡ size S.params }
+    ensures follows { Follows S.params shares tries result.0 «record».old «record».new (N.flow nonces.old) (N.flow nonces.new) (W.flow masks.old) (W.flow masks.new) (plain_run S.params shares (subject_of S.params shares a.now key.now digest.now counter) tries (N.flow nonces.old) (W.flow masks.old)) }
+    ensures counts { result.1 ≡ counts_of (plain_run S.params shares (subject_of S.params shares a.now key.now digest.now counter) tries (N.flow nonces.old) (W.flow masks.old)) }
 {
     let mut nonce_meter = Metered {
         src: nonces,

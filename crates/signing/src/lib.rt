@@ -33,11 +33,11 @@ pub fn sign_in<const M: usize, S: ParamSet, P: Multiply<S>, N: Source, W: Source
     requires some { 0 < M }
     requires most { M ≤ 8 }
     requires tries { 0 < tries }
-    requires key { (length key.now ≡ 2 * M * S.ParamSet.params.n) × (Residues S.ParamSet.params.p key.now) }
-    requires a { Proper S.ParamSet.params.n S.ParamSet.params.p a.now }
-    requires work { length work.old ≡ 6 * M * S.ParamSet.params.n }
-    requires record { length «record».old ≡ size S.ParamSet.params }
-    ensures { Follows S.ParamSet.params M tries result «record».old «record».new (N.Source.flow nonces.old) (N.Source.flow nonces.new) (W.Source.flow masks.old) (W.Source.flow masks.new) (plain_run S.ParamSet.params M (subject_of S.ParamSet.params M a.now key.now digest.now counter) tries (N.Source.flow nonces.old) (W.Source.flow masks.old)) }
+    requires key { (length key.now ≡ 2 * M * S.params.n) × (Residues S.params.p key.now) }
+    requires a { Proper S.params.n S.params.p a.now }
+    requires work { length work.old ≡ 6 * M * S.params.n }
+    requires record { length «record».old ≡ size S.params }
+    ensures { Follows S.params M tries result «record».old «record».new (N.flow nonces.old) (N.flow nonces.new) (W.flow masks.old) (W.flow masks.new) (plain_run S.params M (subject_of S.params M a.now key.now digest.now counter) tries (N.flow nonces.old) (W.flow masks.old)) }
 {
     let mut number = 1;
     'attempts: loop {

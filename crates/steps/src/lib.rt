@@ -22,7 +22,7 @@ pub enum Ended {
 }
 
 fn draw_shares<const M: usize, S: Source>(src: &mut S) -> Result<Shares<M>, Mark>
-    ensures { Spends M result (flow src.old) (flow src.new) (λ z. z ≡ take M (flow src.old).words) }
+    ensures { Spends M result (S.flow src.old) (S.flow src.new) (λ z. z ≡ take M (S.flow src.old).words) }
 {
     let mut out = [0; M];
     for i in 0..M {
@@ -40,7 +40,7 @@ fn judge<const M: usize, S: Source>(
     requires some { 0 < M }
     requires small { word_of x < 2 ^ 31 }
     requires limited { (0 < limit) × (limit < 2 ^ 31) }
-    ensures { Spends (17 * pairs M) result (flow src.old) (flow src.new) (λ o. Judged limit (word_of x.entry) o) }
+    ensures { Spends (17 * pairs M) result (S.flow src.old) (S.flow src.new) (λ o. Judged limit (word_of x.entry) o) }
 {
     let x = fresh(&Words, x, src)?;
     let below = sec_below(x, limit, src)?;
@@ -58,7 +58,7 @@ pub fn candidate<const M: usize, N: Source, S: Source>(
     requires some { 0 < M }
     requires narrow { bits < 31 }
     requires limited { (0 < limit) × (limit < 2 ^ 31) }
-    ensures { Tried M bits limit result (N.Source.flow nonces.old) (N.Source.flow nonces.new) (S.Source.flow masks.old) (S.Source.flow masks.new) }
+    ensures { Tried M bits limit result (N.flow nonces.old) (N.flow nonces.new) (S.flow masks.old) (S.flow masks.new) }
 {
     let words = match draw_shares(nonces) {
         Ok(words) => words,
@@ -81,7 +81,7 @@ pub fn check_coefficient<const M: usize, S: Source>(
     requires some { 0 < M }
     requires within { Within (residue_rule ring.p) z }
     requires near { 2 * reach + 1 < ring.p }
-    ensures { Spends ((33 * M + 16) * pairs M) result (flow src.old) (flow src.new) (λ q. word_of q ≡ bit_and (is_below ((residue_of ring.p z.entry + reach) % ring.p) (2 * reach + 1)) (word_of pass.entry)) }
+    ensures { Spends ((33 * M + 16) * pairs M) result (S.flow src.old) (S.flow src.new) (λ q. word_of q ≡ bit_and (is_below ((residue_of ring.p z.entry + reach) % ring.p) (2 * reach + 1)) (word_of pass.entry)) }
 {
     let mut moved = z;
     moved[0] = ring.join(z[0], reach);

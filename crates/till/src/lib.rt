@@ -56,11 +56,11 @@ impl<'a, S: ParamSet> Till<'a, S> {
 
     // Takes a record, or says why not.
     pub fn check<M: Multiply<S>>(&mut self, bytes: &[u8]) -> Result<Payment, Refusal>
-        ensures answer { result ≡ verdict S.ParamSet.params self.old.key.now self.old.last bytes.now }
+        ensures answer { result ≡ verdict S.params self.old.key.now self.old.last bytes.now }
         ensures last { self.new.last ≡ last_after self.old.last result }
         ensures key { self.new.key.now ≡ self.old.key.now }
-        ensures accepts { is_ok result ≡ true → Accepts S.ParamSet.params self.old.key.now self.old.last bytes.now }
-        ensures accepted { Accepts S.ParamSet.params self.old.key.now self.old.last bytes.now → is_ok result ≡ true }
+        ensures accepts { is_ok result ≡ true → Accepts S.params self.old.key.now self.old.last bytes.now }
+        ensures accepted { Accepts S.params self.old.key.now self.old.last bytes.now → is_ok result ≡ true }
     {
         check_key::<S>(self.key)?;
         let record = read::<S>(bytes)?;

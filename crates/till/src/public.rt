@@ -8,7 +8,7 @@ use search::first_at_least;
 
 // A public key has its size, and each word is a residue.
 pub(crate) fn check_key<S: ParamSet>(key: &[u32]) -> Result<(), Refusal>
-    ensures { TestsKey params key.now result }
+    ensures { TestsKey S.params key.now result }
 {
     if key.len() != 2 * S::degree() {
         return Err(Refusal::AreaSize);

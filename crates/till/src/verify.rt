@@ -21,7 +21,7 @@ fn zeros<const K: usize>() -> [u32; K]
 // The residues of coefficients that stand in two bytes each.
 fn read_z<S: ParamSet>(z: &mut [u32], bytes: &[u8])
     requires { length bytes.now ≡ 2 * length z.old }
-    ensures { z.new ≡ map (residue params.p) (z_of bytes.now) }
+    ensures { z.new ≡ map (residue S.params.p) (z_of bytes.now) }
 {
     'coefficients: for i in 0..z.len() {
         z[i] = to_residue::<S>(i16::from_le_bytes([bytes[2 * i], bytes[2 * i + 1]]));
@@ -31,7 +31,7 @@ fn read_z<S: ParamSet>(z: &mut [u32], bytes: &[u8])
 // The residue of a code: 0 is 0, 1 is +1, 3 is −1.
 fn coefficient<S: ParamSet>(code: u8) -> u32
     requires { code < 4 }
-    ensures { result ≡ coefficient params.p code }
+    ensures { result ≡ coefficient S.params.p code }
 {
     if code == 3 {
         S::modulus() - 1
@@ -43,7 +43,7 @@ fn coefficient<S: ParamSet>(code: u8) -> u32
 // The coefficients of a challenge, from four codes a byte.
 fn read_challenge<S: ParamSet>(c: &mut [u32], bytes: &[u8])
     requires { length c.old ≡ 4 * length bytes.now }
-    ensures { c.new ≡ map (coefficient params.p) (unpacked bytes.now) }
+    ensures { c.new ≡ map (coefficient S.params.p) (unpacked bytes.now) }
 {
     'codes: for i in 0..c.len() {
         c[i] = coefficient::<S>((bytes[i / 4] >> (2 * (i % 4))) & 3);
@@ -59,13 +59,13 @@ fn commitment<S: ParamSet, M: Multiply<S>>(
     z2: &[u32],
     c: &[u32],
 )
-    requires room { length r.old ≡ S.ParamSet.params.n }
-    requires a { Proper S.ParamSet.params.n S.ParamSet.params.p a.now }
-    requires t { Proper S.ParamSet.params.n S.ParamSet.params.p t.now }
-    requires z1 { Proper S.ParamSet.params.n S.ParamSet.params.p z1.now }
-    requires z2 { Proper S.ParamSet.params.n S.ParamSet.params.p z2.now }
-    requires c { Proper S.ParamSet.params.n S.ParamSet.params.p c.now }
-    ensures { r.new ≡ commitment S.ParamSet.params.p a.now t.now z1.now z2.now c.now }
+    requires room { length r.old ≡ S.params.n }
+    requires a { Proper S.params.n S.params.p a.now }
+    requires t { Proper S.params.n S.params.p t.now }
+    requires z1 { Proper S.params.n S.params.p z1.now }
+    requires z2 { Proper S.params.n S.params.p z2.now }
+    requires c { Proper S.params.n S.params.p c.now }
+    ensures { r.new ≡ commitment S.params.p a.now t.now z1.now z2.now c.now }
 {
     let mut room = zeros::<1024>();
     let tc = &mut room[0..S::degree()];
@@ -83,10 +83,10 @@ fn equal(x: &[u32], y: &[u32]) -> bool
 
 // Whether a record's challenge is the one that its answer calls for.
 pub(crate) fn answers<S: ParamSet, M: Multiply<S>>(key: &[u32], record: &Record<'_>) -> bool
-    requires key { PublicKey S.ParamSet.params key.now }
-    requires z { length «record».now.z.now ≡ 4 * S.ParamSet.params.n }
-    requires challenge { 4 * length «record».now.challenge.now ≡ S.ParamSet.params.n }
-    ensures { result ≡ answering S.ParamSet.params key.now «record».now }
+    requires key { PublicKey S.params key.now }
+    requires z { length «record».now.z.now ≡ 4 * S.params.n }
+    requires challenge { 4 * length «record».now.challenge.now ≡ S.params.n }
+    ensures { result ≡ answering S.params key.now «record».now }
 {
     let n = S::degree();
     let mut z_room = zeros::<2048>();

@@ -31,7 +31,7 @@ pub struct Health<S> {
 impl<S: Source> Health<S> {
     /// The longest front of the source that has no `cutoff` equal words in a row.
     pub fn new(source: S, cutoff: Cutoff) -> Health<S>
-        ensures { Steady cutoff.value (S.Source.flow source) (health_flow result.watch (S.Source.flow result.source)) }
+        ensures { Steady cutoff.value (S.flow source) (health_flow result.watch (S.flow result.source)) }
     {
         Health {
             watch: Watch::start(cutoff),
@@ -41,9 +41,9 @@ impl<S: Source> Health<S> {
 }
 
 impl<S: Source> Source for Health<S> {
-    ghost flow = { λ h. health_flow h.watch (S.Source.flow h.source) };
+    ghost flow = { λ h. health_flow h.watch (S.flow h.source) };
 
-    ghost few = { λ h. health_few h.watch (S.Source.flow h.source) (S.Source.few h.source) };
+    ghost few = { λ h. health_few h.watch (S.flow h.source) (S.Source.few h.source) };
 
     fn draw(&mut self) -> Result<u32, Mark> {
         if self.watch.failed {

@@ -22,7 +22,7 @@ impl<'a, S: Source> Metered<'a, S> {
 }
 
 impl<'a, S: Source> Source for Metered<'a, S> {
-    ghost flow = { λ m. metered m.src.ghost_name m.count (S.Source.flow m.src.now) };
+    ghost flow = { λ m. metered m.src.ghost_name m.count (S.flow m.src.now) };
 
     ghost few = { λ m. S.Source.few m.src.now };
 

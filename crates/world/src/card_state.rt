@@ -31,7 +31,7 @@ pub struct CardState {
 
 // The words of work area that a signing needs.
 fn work_size<S: ParamSet>(shares: u8) -> usize
-    ensures { result ≡ 6 * shares * params.n }
+    ensures { result ≡ 6 * shares * S.params.n }
 {
     6 * shares as usize * S::degree()
 }
@@ -92,7 +92,7 @@ fn answer(reply: Reply) -> Answer
 impl CardState {
     // One share, an empty secret, empty sources, and no card.
     fn new_in<S: ParamSet>(heap: Global) -> Result<CardState, AllocError>
-        ensures { IfOk result (Fresh params) }
+        ensures { IfOk result (Fresh S.params) }
     {
         let key = zeros(heap, 2 * S::degree())?;
         Ok(CardState {
@@ -118,7 +118,7 @@ impl CardState {
 
     // Another share count: a new key area, and no card.
     fn set_shares_in<S: ParamSet>(&mut self, heap: Global, shares: u8) -> Result<(), AllocError>
-        ensures { MatchResult result (λ _. Reshared params shares self.old self.new) (λ _. self.new ≡ self.old) }
+        ensures { MatchResult result (λ _. Reshared S.params shares self.old self.new) (λ _. self.new ≡ self.old) }
     {
         let key = zeros(heap, 2 * shares as usize * S::degree())?;
         self.shares = shares;
@@ -145,7 +145,7 @@ impl CardState {
 
     // Loads a card. Where the masks end there is none afterwards; at any other refusal the one that was there stays.
     fn load_in<S: ParamSet>(&mut self, public: &mut [u32]) -> Result<u64, Refusal>
-        ensures { Loads params self.old public.old result self.new public.new }
+        ensures { Loads S.params self.old public.old result self.new public.new }
     {
         match load::<S, LongProduct, Feed>(
             self.shares,
@@ -184,7 +184,7 @@ impl CardState {
         public: &[u32],
         made: &mut Vec<u8>,
     ) -> Result<Answer, AllocError>
-        ensures { MatchResult result (λ a. Calls params call.now self.old.card self.old public.now IfOk.entry.now a self.new IfOk.exit.now) (λ _. (self.new ≡ self.old) × (IfOk.exit.now ≡ IfOk.entry.now)) }
+        ensures { MatchResult result (λ a. Calls S.params call.now self.old.card self.old public.now IfOk.entry.now a self.new IfOk.exit.now) (λ _. (self.new ≡ self.old) × (IfOk.exit.now ≡ IfOk.entry.now)) }
     {
         let mut work = zeros(heap, lent_size(self.work, work_size::<S>(self.shares)))?;
         let mut record = zero_bytes(heap, lent_size(self.room, record::size::<S>()))?;

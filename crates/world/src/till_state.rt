@@ -19,7 +19,7 @@ pub struct TillState {
 impl TillState {
     // Shows a till of the set S a record.
     fn check_in<S: ParamSet>(&mut self, bytes: &[u8]) -> Result<Payment, Refusal>
-        ensures answer { result ≡ verdict_of S.ParamSet.params self.old bytes.now }
+        ensures answer { result ≡ verdict_of S.params self.old bytes.now }
         ensures last { self.new.last ≡ last_after self.old.last result }
         ensures key { self.new.key ≡ self.old.key }
     {
