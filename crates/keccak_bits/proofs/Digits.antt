@@ -7,14 +7,14 @@ use Rattle.std.proofs.lemmas.Bool.{cases_lt, cases_eq}
 use Rattle.keccak.specs.Keccak.{lane, grid, rotl, not64, parity}
 use Rattle.keccak_bits.specs.Bits.{bit, C}
 
-pub bit_xor : (a b z : ℕ) → bit (bit_xor a b) z ≡ bit_xor (bit a z) (bit b z)
-bit_xor a b z = ap (λ (n : ℕ). n % 2) (xor_shr a b z) ∙ xor_mod (a / 2 ^ z) (b / 2 ^ z) 1
+pub bit_of_xor : (a b z : ℕ) → bit (bit_xor a b) z ≡ bit_xor (bit a z) (bit b z)
+bit_of_xor a b z = ap (λ (n : ℕ). n % 2) (xor_shr a b z) ∙ xor_mod (a / 2 ^ z) (b / 2 ^ z) 1
 
-pub bit_and : (a b z : ℕ) → bit (bit_and a b) z ≡ bit_and (bit a z) (bit b z)
-bit_and a b z = ap (λ (n : ℕ). n % 2) (and_shr a b z) ∙ and_mod (a / 2 ^ z) (b / 2 ^ z) 1
+pub bit_of_and : (a b z : ℕ) → bit (bit_and a b) z ≡ bit_and (bit a z) (bit b z)
+bit_of_and a b z = ap (λ (n : ℕ). n % 2) (and_shr a b z) ∙ and_mod (a / 2 ^ z) (b / 2 ^ z) 1
 
-bit-or : (a b z : ℕ) → bit (bit_or a b) z ≡ bit_or (bit a z) (bit b z)
-bit-or a b z = ap (λ (n : ℕ). n % 2) (or_shr a b z) ∙ or_mod (a / 2 ^ z) (b / 2 ^ z) 1
+bit_of_or : (a b z : ℕ) → bit (bit_or a b) z ≡ bit_or (bit a z) (bit b z)
+bit_of_or a b z = ap (λ (n : ℕ). n % 2) (or_shr a b z) ∙ or_mod (a / 2 ^ z) (b / 2 ^ z) 1
 
 -- a bit of what a shift keeps of 64 bits
 bit_kept : (m z : ℕ) → z < 64 → bit (m % 2 ^ 64) z ≡ bit m z
@@ -47,7 +47,7 @@ pub bit_rotl : (n k z : ℕ) → n < 2 ^ 64 → k < 64 → z < 64 → bit (rotl 
 bit_rotl n k z f h l =
     let hi : ℕ = (n * 2 ^ k) % 2 ^ 64 in
     let r : ℕ = (64 - k) % 64 in
-    let both : bit (rotl k n) z ≡ bit_or (bit hi z) (bit (n / 2 ^ r) z) = bit-or hi (n / 2 ^ r) z in
+    let both : bit (rotl k n) z ≡ bit_or (bit hi z) (bit (n / 2 ^ r) z) = bit_of_or hi (n / 2 ^ r) z in
     let kept : bit hi z ≡ bit (n * 2 ^ k) z = bit_kept (n * 2 ^ k) z l in
     let low : bit (n / 2 ^ r) z ≡ bit n (r + z) = ap (λ (v : ℕ). v % 2) (shr-shr n r z) in
     elim (cases_lt z k) [
@@ -83,7 +83,7 @@ bit_not n z f l =
     let m : bit_and n (2 ^ 64 - 1) ≡ n % 2 ^ 64 = and_mask n 64 in
     let s = xor_add_and n (2 ^ 64 - 1) in
     let e : not64 n ≡ bit_xor n (2 ^ 64 - 1) = omega arith in
-    ap (λ (v : ℕ). bit v z) e ∙ bit_xor n (2 ^ 64 - 1) z ∙ ap (bit_xor (bit n z)) (bit_ones z l)
+    ap (λ (v : ℕ). bit v z) e ∙ bit_of_xor n (2 ^ 64 - 1) z ∙ ap (bit_xor (bit n z)) (bit_ones z l)
 
 pub below5 : (P : ℕ → Type 0) → P 0 → P 1 → P 2 → P 3 → P 4 → (x : ℕ) → x < 5 → P x
 below5 P a b c d e zero h = a
@@ -105,4 +105,4 @@ grid_at f x y h k =
     x h y k
 
 pub bit_parity : (s : List ℕ) (x z : ℕ) → bit (parity s x) z ≡ C s x z
-bit_parity s x z = simp bit_xor
+bit_parity s x z = simp bit_of_xor

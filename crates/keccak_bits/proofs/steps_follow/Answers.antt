@@ -2,7 +2,7 @@ use Rattle.std.proofs.Common.{◌≡◌, ℕ, ◌+◌, ◌-◌, ◌*◌, ◌%◌
 use lib.Bits.{bit_and, bit_xor, xor_lt}
 use Rattle.keccak.specs.Keccak.{lane, rotl, not64, parity, sheet, offsets, theta, rho, pi, chi}
 use Rattle.keccak_bits.specs.Bits.{bit, A, C}
-use Rattle.keccak_bits.proofs.Digits.{bit_xor, bit_and, bit_rotl, bit_not, bit_parity, grid_at, below5}
+use Rattle.keccak_bits.proofs.Digits.{bit_of_xor, bit_of_and, bit_rotl, bit_not, bit_parity, grid_at, below5}
 use Rattle.keccak_bits.proofs.steps_follow.Goals as goal
 
 module _ (s : List ℕ) (f : (i : ℕ) → get_or s i 0 < 2 ^ 64) (x y z : ℕ) (hx : x < 5) (hy : y < 5) (hz : z < 64) where
@@ -24,9 +24,9 @@ module _ (s : List ℕ) (f : (i : ℕ) → get_or s i 0 < 2 ^ 64) (x y z : ℕ) 
   theta-at : A (theta s) x y z ≡ bit_xor (A s x y z) (bit_xor (C s ((x + 4) % 5) z) (C s ((x + 1) % 5) ((z + 63) % 64)))
   theta-at =
       ap (λ (v : ℕ). bit v z) (grid_at (λ u v. bit_xor (lane s u v) (sheet s u)) x y hx hy)
-      ∙ bit_xor (lane s x y) (sheet s x) z
+      ∙ bit_of_xor (lane s x y) (sheet s x) z
       ∙ ap (bit_xor (A s x y z))
-      (bit_xor (parity s ((x + 4) % 5)) (rotl 1 (parity s ((x + 1) % 5))) z
+      (bit_of_xor (parity s ((x + 4) % 5)) (rotl 1 (parity s ((x + 1) % 5))) z
       ∙ ap₂ bit_xor (bit_parity s ((x + 4) % 5) z) (bit_rotl (parity s ((x + 1) % 5)) 1 z (parity-fits ((x + 1) % 5)) (lit< tt) hz ∙ bit_parity s ((x + 1) % 5) ((z + 63) % 64)))
 
   rho-at : A (rho s) x y z ≡ A s x y ((z + (64 - get_or offsets (x + 5 * y) 0)) % 64)
@@ -40,9 +40,9 @@ module _ (s : List ℕ) (f : (i : ℕ) → get_or s i 0 < 2 ^ 64) (x y z : ℕ) 
   chi-at : A (chi s) x y z ≡ bit_xor (A s x y z) (bit_and (bit_xor (A s ((x + 1) % 5) y z) 1) (A s ((x + 2) % 5) y z))
   chi-at =
       ap (λ (v : ℕ). bit v z) (grid_at (λ u v. bit_xor (lane s u v) (bit_and (not64 (lane s ((u + 1) % 5) v)) (lane s ((u + 2) % 5) v))) x y hx hy)
-      ∙ bit_xor (lane s x y) (bit_and (not64 (lane s ((x + 1) % 5) y)) (lane s ((x + 2) % 5) y)) z
+      ∙ bit_of_xor (lane s x y) (bit_and (not64 (lane s ((x + 1) % 5) y)) (lane s ((x + 2) % 5) y)) z
       ∙ ap (bit_xor (A s x y z))
-      (bit_and (not64 (lane s ((x + 1) % 5) y)) (lane s ((x + 2) % 5) y) z
+      (bit_of_and (not64 (lane s ((x + 1) % 5) y)) (lane s ((x + 2) % 5) y) z
       ∙ ap (λ (v : ℕ). bit_and v (A s ((x + 2) % 5) y z)) (bit_not (lane s ((x + 1) % 5) y) z (f ((x + 1) % 5 + 5 * y)) hz))
 
 pub returns : goal.returns

@@ -3,8 +3,8 @@ use Rattle.std.proofs.lemmas.List.{length-replicate}
 use Rattle.world.proofs.Parts.{parts_zeros}
 use Rattle.world.proofs.area.PublicArea.new.Goals as goal
 
-pub invariant-of-result : goal.invariant-of-result
-invariant-of-result c =
+pub invariant_of-result : goal.invariant_of-result
+invariant_of-result c =
     let long = ap length c.in-ok-words.ensures ∙ length-replicate _ 0 in
     let same = c.in-ok-words.words.ok.0 in
     (omega arith, tt)
