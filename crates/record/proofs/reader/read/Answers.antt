@@ -86,6 +86,6 @@ returns g c =
       parts.digest ∙ ap (λ (xs : List ℕ). take 32 (drop 2 xs)) opens.3 ∙ ap (take 32) (drop-drop 2 6 bytes),
       z,
       codes,
-      written_again s bytes (omega (arith, sound.k_below_p, sound.alpha_below_k, sound.alpha_some)) (n_quarters s sound) (λ i. (c.type-inv.bytes i).fits) opens.2
+      written_again s bytes (omega (arith, sound.k_below_p, sound.alpha_below_k, sound.alpha_some)) (n_quarters s sound) (λ i. (c.type_inv.bytes i).fits) opens.2
           (length_field s bytes opens.0) (kind_field s bytes opens.1) used,
     )

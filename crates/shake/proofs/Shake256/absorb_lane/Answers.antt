@@ -23,5 +23,5 @@ returns c =
     let place : c.advance-self.result ≡ (k + length bs) % 136 = omega arith in
     let n : length bs ≡ 8 = c.requires.bytes_len in
     let w = eight_number bs c.from_le_bytes-lane.result n c.from_le_bytes-lane.ensures in
-    let x = lane_is s k c.from_le_bytes-lane.result bs l c.requires.pos_value n (each_byte bs (λ i. (c.type-inv.bytes i).fits)) w in
+    let x = lane_is s k c.from_le_bytes-lane.result bs l c.requires.pos_value n (each_byte bs (λ i. (c.type_inv.bytes i).fits)) w in
     absorbing_more m bs c.args.self.now _ a (c.advance-self.ensures.state ∙ ap (passed (k + 8)) x ∙ fed-lane s k bs n le) place
