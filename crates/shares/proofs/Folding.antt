@@ -12,24 +12,24 @@ drop_all (x ∷ xs) (suc i) h = drop_all xs i (le_of_suc-le-suc h)
 module _ (u : Rule) (laws : Laws u) where
   -- v joined with the shares from share i on is the whole
   pub record Left (xs : List ℕ) (v i : ℕ) : Type 0 where
-    pub in-range : v < u.order
+    pub in_range : v < u.order
     pub whole : u.op v (recombine u (drop i xs)) ≡ recombine u xs
 
   pub left-none : (xs : List ℕ) → Within u xs → Left xs u.unit 0
-  left-none xs w = record { in-range = laws.unit_in; whole = laws.comm u.unit (recombine u xs) ∙ laws.neutral (recombine u xs) (recombine-in u laws xs w) }
+  left-none xs w = record { in_range = laws.unit_in; whole = laws.comm u.unit (recombine u xs) ∙ laws.neutral (recombine u xs) (recombine-in u laws xs w) }
 
   pub left_one : (xs : List ℕ) → Within u xs → 0 < length xs → Left xs (get_or xs 0 0) 1
   left_one [] w h = absurd (not-suc-le-zero h)
-  left_one (x ∷ xs) w h = record { in-range = w 0 h; whole = refl }
+  left_one (x ∷ xs) w h = record { in_range = w 0 h; whole = refl }
 
   pub left-more : (xs : List ℕ) (v i : ℕ) → i < length xs → Within u xs → Left xs v i → Left xs (u.op v (get_or xs i 0)) (i + 1)
   left-more xs v i h w l =
       let e : recombine u (drop i xs) ≡ u.op (get_or xs i 0) (recombine u (drop (i + 1) xs)) =
       ap (recombine u) (drop-cons xs i 0 h) ∙ ap (λ (j : ℕ). u.op (get_or xs i 0) (recombine u (drop j xs))) (sym (add-one i)) in
       record {
-        in-range = laws.closed v (get_or xs i 0) l.in-range (w i h);
+        in_range = laws.closed v (get_or xs i 0) l.in_range (w i h);
         whole = laws.assoc v (get_or xs i 0) (recombine u (drop (i + 1) xs)) ∙ ap (u.op v) (sym e) ∙ l.whole;
       }
 
   pub left-all : (xs : List ℕ) (v i : ℕ) → length xs ≤ i → Left xs v i → v ≡ recombine u xs
-  left-all xs v i h l = sym (ap (λ (r : List ℕ). u.op v (recombine u r)) (drop_all xs i h) ∙ laws.neutral v l.in-range) ∙ l.whole
+  left-all xs v i h l = sym (ap (λ (r : List ℕ). u.op v (recombine u r)) (drop_all xs i h) ∙ laws.neutral v l.in_range) ∙ l.whole

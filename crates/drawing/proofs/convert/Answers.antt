@@ -25,8 +25,8 @@ unfolding coefficient
 returns g c =
     let s = g.S.ParamSet.params in
     let sound = g.S.ParamSet.sound in
-    let d = c.in-ok-y.ensures.by in
-    let y = c.in-ok-y.y in
+    let d = c.in_ok-y.ensures.by in
+    let y = c.in_ok-y.y in
     let long : length y ≡ g.row.M = search rules in
     let some = c.requires.some in
     let ring = c.of-ring.ensures in

@@ -28,16 +28,16 @@ open_centred-requires g c =
 
 pub coefficients-preserved : goal.coefficients-preserved
 coefficients-preserved g c =
-    let d = c.in-ok-out.ensures.by in
+    let d = c.in_ok-out.ensures.by in
     let h : c.coefficients.c < length c.coefficients.out = search rules in
-    let fits : SFits w16 c.in-ok-out.field-0 = search rules in
+    let fits : SFits w16 c.in_ok-out.field-0 = search rules in
     filling-more (pos 0) _ _ _ c.coefficients.c c.coefficients.out _ _ _ h d.0 (to_z-of_z w16 _ fits ∙ d.1) c.coefficients.invariant
 
-pub returns-in-err-out : goal.returns-in-err-out
-returns-in-err-out g c =
+pub returns-in_err-out : goal.returns-in_err-out
+returns-in_err-out g c =
     let n = c.coefficients-c-end.ensures in
-    let p = err_from_is_err_and c.from-residual.result c.from-residual.ensures.1 in
-    rw (p.1, p.2) record { by = filling-short (pos 0) _ _ _ (2 * g.S.ParamSet.params.n) c.coefficients.c c.coefficients.out _ _ _ (omega arith) c.in-err-out.ensures.by c.coefficients.invariant }
+    let p = err_from_is_err_and c.from_residual.result c.from_residual.ensures.1 in
+    rw (p.1, p.2) record { by = filling-short (pos 0) _ _ _ (2 * g.S.ParamSet.params.n) c.coefficients.c c.coefficients.out _ _ _ (omega arith) c.in_err-out.ensures.by c.coefficients.invariant }
 
 pub returns : goal.returns
 returns g c =

@@ -37,15 +37,15 @@ coefficients-preserved g c =
     let n = c.coefficients-c-end.ensures in
     let inside = polynomial-inside s.n g.row.M (omega arith) 2 c.coefficients.c z (omega arith) c.requires.sized in
     let below = value-below s g.row.M c.coefficients.c z (omega arith) (omega arith) inside c.requires.residues in
-    let d = c.in-ok-pass.ensures.by in
-    passing-more s g.row.M z (g.W.Source.flow c.args.masks.now) c.coefficients.c c.coefficient-shares.result c.coefficients.pass c.in-ok-pass.pass c.of-ring.result.p c.reach.result
+    let d = c.in_ok-pass.ensures.by in
+    passing-more s g.row.M z (g.W.Source.flow c.args.masks.now) c.coefficients.c c.coefficient-shares.result c.coefficients.pass c.in_ok-pass.pass c.of-ring.result.p c.reach.result
     c.of-ring.ensures c.reach.ensures c.coefficient-shares.ensures.shares below (omega arith) d.0 d.1 c.coefficients.invariant
 
-pub returns-in-err-pass : goal.returns-in-err-pass
-returns-in-err-pass g c =
+pub returns-in_err-pass : goal.returns-in_err-pass
+returns-in_err-pass g c =
     let n = c.coefficients-c-end.ensures in
-    let p = err_from_is_err_and c.from-residual.result c.from-residual.ensures.1 in
-    rw (p.1, p.2) record { by = passing-short g.S.ParamSet.params g.row.M c.args.z.now (g.W.Source.flow c.args.masks.now) c.coefficients.c c.coefficients.pass _ _ _ (omega arith) c.in-err-pass.ensures.by c.coefficients.invariant }
+    let p = err_from_is_err_and c.from_residual.result c.from_residual.ensures.1 in
+    rw (p.1, p.2) record { by = passing-short g.S.ParamSet.params g.row.M c.args.z.now (g.W.Source.flow c.args.masks.now) c.coefficients.c c.coefficients.pass _ _ _ (omega arith) c.in_err-pass.ensures.by c.coefficients.invariant }
 
 pub returns : goal.returns
 returns g c =

@@ -17,20 +17,20 @@ refresh_pair-requires g c =
     let hx : length c.loop-j.shares ≡ g.row.M = c.loop-j.invariant.long ∙ c.loop-i.invariant.long ∙ c.requires.sized in
     (search rules, (hx, (omega arith, (omega arith, c.loop-j.invariant.within))))
 
-pub returns-in-err-refresh_pair : goal.returns-in-err-refresh_pair
-returns-in-err-refresh_pair g c =
+pub returns-in_err-refresh_pair : goal.returns-in_err-refresh_pair
+returns-in_err-refresh_pair g c =
     let m = g.row.M in
     let i = c.loop-i.i in
     let e = ap (λ r. r ++ rows (i + 1) (m - (i + 1))) (row_more i c.loop-j.j m c.loop-j-test.true) in
-    let p = err_from_is_err_and c.from-residual.result c.from-residual.ensures.1 in
-    rw (p.1, p.2) (goes_short (goes_then c.loop-j.invariant refl c.loop-i.invariant) e c.in-err-refresh_pair.ensures)
+    let p = err_from_is_err_and c.from_residual.result c.from_residual.ensures.1 in
+    rw (p.1, p.2) (goes_short (goes_then c.loop-j.invariant refl c.loop-i.invariant) e c.in_err-refresh_pair.ensures)
 
 pub loop-j-preserved : goal.loop-j-preserved
 loop-j-preserved g c =
     let m = g.row.M in
     let i = c.loop-i.i in
     let e = ap (λ r. r ++ rows (i + 1) (m - (i + 1))) (row_more i c.loop-j.j m c.loop-j-test.true) in
-    goes_then (goes_pair c.in-ok-refresh_pair.ensures _ e) refl c.loop-j.invariant
+    goes_then (goes_pair c.in_ok-refresh_pair.ensures _ e) refl c.loop-j.invariant
 
 pub loop-i-preserved : goal.loop-i-preserved
 loop-i-preserved g c =

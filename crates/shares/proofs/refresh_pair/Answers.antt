@@ -13,8 +13,8 @@ returns g c =
     let j = c.args.j in
     let hx : length xs ≡ g.row.M = c.requires.sized in
     let ins : j < length xs = omega arith in
-    let r = c.in-ok-mask.mask in
-    let m = c.in-ok-mask.ensures.by in
+    let r = c.in_ok-mask.mask in
+    let m = c.in_ok-mask.ensures.by in
     let e : set (set xs i c.join-a.result) j c.join-b.result ≡ masked u i j r xs = cc in
     record {
       spends = record { by = (m.0, tt) };
@@ -27,7 +27,7 @@ returns g c =
 pub join-a-requires : goal.join-a-requires
 join-a-requires g c =
     let hx = c.requires.sized in
-    (c.requires.within c.args.i (omega arith), c.in-ok-mask.ensures.by.1.0)
+    (c.requires.within c.args.i (omega arith), c.in_ok-mask.ensures.by.1.0)
 
 pub join-b-requires : goal.join-b-requires
 join-b-requires g c =

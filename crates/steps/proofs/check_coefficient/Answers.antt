@@ -19,29 +19,29 @@ pub sec_below-requires : goal.sec_below-requires
 sec_below-requires g c =
     let p = c.args.ring.p in
     let hz : length c.args.z ≡ g.row.M = search rules in
-    let w = c.in-ok-word.ensures.by.1 ∙ moved p c.args.reach c.args.z _ c.args.ring.some (omega (arith, c.requires.some)) c.join.ensures in
+    let w = c.in_ok-word.ensures.by.1 ∙ moved p c.args.reach c.args.z _ c.args.ring.some (omega (arith, c.requires.some)) c.join.ensures in
     let q = c.args.ring.small in
     let b : (residue_of p c.args.z + c.args.reach) % p < p = mod-lt _ (omega arith) in
     (search rules, (c.requires.some, (omega arith, (omega arith, omega (arith, c.requires.near)))))
 
-pub returns-in-err-word : goal.returns-in-err-word
-returns-in-err-word g c =
+pub returns-in_err-word : goal.returns-in_err-word
+returns-in_err-word g c =
     let t = cost g.row.M (pairs g.row.M) in
-    let s = short_of {b = (33 * g.row.M + 16) * pairs g.row.M} c.in-err-word.ensures.by (omega arith) in search rules
+    let s = short_of {b = (33 * g.row.M + 16) * pairs g.row.M} c.in_err-word.ensures.by (omega arith) in search rules
 
-pub returns-in-err-inside : goal.returns-in-err-inside
-returns-in-err-inside g c =
+pub returns-in_err-inside : goal.returns-in_err-inside
+returns-in_err-inside g c =
     let t = cost g.row.M (pairs g.row.M) in
-    let s = short_of {b = (33 * g.row.M + 16) * pairs g.row.M} (short_then c.in-ok-word.ensures.by.0 c.in-err-inside.ensures.by) (omega arith) in search rules
+    let s = short_of {b = (33 * g.row.M + 16) * pairs g.row.M} (short_then c.in_ok-word.ensures.by.0 c.in_err-inside.ensures.by) (omega arith) in search rules
 
 pub returns : goal.returns
 returns g c =
     let p = c.args.ring.p in
     let k = c.args.reach in
     let hz : length c.args.z ≡ g.row.M = search rules in
-    let e = c.in-ok-word.ensures.by.1 ∙ moved p k c.args.z _ c.args.ring.some (omega (arith, c.requires.some)) c.join.ensures in
-    let a = spent_then c.in-ok-word.ensures.by.0 c.in-ok-inside.ensures.by.0 in
+    let e = c.in_ok-word.ensures.by.1 ∙ moved p k c.args.z _ c.args.ring.some (omega (arith, c.requires.some)) c.join.ensures in
+    let a = spent_then c.in_ok-word.ensures.by.0 c.in_ok-inside.ensures.by.0 in
     let t = cost g.row.M (pairs g.row.M) in
     let r = c.sec_and.result in
     spends_so r (spends_as r (spends_then r a c.sec_and.ensures) (omega arith))
-    (λ q h. h.1 ∙ ap (λ (v : ℕ). bit_and v (word_of c.args.pass)) (c.in-ok-inside.ensures.by.1 ∙ ap (λ (v : ℕ). is_below v (2 * k + 1)) e))
+    (λ q h. h.1 ∙ ap (λ (v : ℕ). bit_and v (word_of c.args.pass)) (c.in_ok-inside.ensures.by.1 ∙ ap (λ (v : ℕ). is_below v (2 * k + 1)) e))

@@ -7,14 +7,14 @@ use Rattle.steps.proofs.draw_shares.Goals as goal
 pub loop-i-init : goal.loop-i-init
 loop-i-init g c = (length-replicate g.row.M 0, λ k h. absurd (omega arith), spent_none _)
 
-pub returns-in-err-out : goal.returns-in-err-out
-returns-in-err-out g c =
-    let s = short_of {b = g.row.M} (short_then c.loop-i.invariant.2 (short_one c.in-err-out.ensures)) (omega arith) in
+pub returns-in_err-out : goal.returns-in_err-out
+returns-in_err-out g c =
+    let s = short_of {b = g.row.M} (short_then c.loop-i.invariant.2 (short_one c.in_err-out.ensures)) (omega arith) in
     search rules
 
 pub loop-i-preserved : goal.loop-i-preserved
 loop-i-preserved g c =
-    let d = c.in-ok-out.ensures in
+    let d = c.in_ok-out.ensures in
     let i = c.loop-i.i in
     let os = c.loop-i.out in
     let lt : i < length os = let l = c.loop-i.invariant.0 in omega arith in (

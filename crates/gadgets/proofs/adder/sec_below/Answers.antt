@@ -6,18 +6,18 @@ use Rattle.linear.proofs.Sharewise.{word_public}
 use Rattle.gadgets.proofs.Selection.{top_below}
 use Rattle.gadgets.proofs.adder.sec_below.Goals as goal
 
-pub returns-in-err-difference : goal.returns-in-err-difference
-returns-in-err-difference g c =
-    let s = short_of {b = 15 * pairs g.row.M} (short_then c.in-ok-minus.ensures.by.0 c.in-err-difference.ensures.by) (omega arith) in search rules
+pub returns-in_err-difference : goal.returns-in_err-difference
+returns-in_err-difference g c =
+    let s = short_of {b = 15 * pairs g.row.M} (short_then c.in_ok-minus.ensures.by.0 c.in_err-difference.ensures.by) (omega arith) in search rules
 
 pub returns : goal.returns
 returns g c =
     let k = c.args.limit in
-    let e : word_of c.in-ok-minus.minus ≡ 2 ^ 32 - k = c.in-ok-minus.ensures.by.1.2 ∙ word_public g.row.M _ c.requires.some c.public.ensures ∙ c.negated.ensures in
+    let e : word_of c.in_ok-minus.minus ≡ 2 ^ 32 - k = c.in_ok-minus.ensures.by.1.2 ∙ word_public g.row.M _ c.requires.some c.public.ensures ∙ c.negated.ensures in
     record {
       by = (
-        spent_as (spent_then c.in-ok-minus.ensures.by.0 c.in-ok-difference.ensures.by.0) (omega arith),
-        c.top_bit.ensures ∙ ap (λ (v : ℕ). v / 2 ^ 31) (c.in-ok-difference.ensures.by.1 ∙ ap (λ (v : ℕ). (word_of c.args.x + v) % 2 ^ 32) e)
+        spent_as (spent_then c.in_ok-minus.ensures.by.0 c.in_ok-difference.ensures.by.0) (omega arith),
+        c.top_bit.ensures ∙ ap (λ (v : ℕ). v / 2 ^ 31) (c.in_ok-difference.ensures.by.1 ∙ ap (λ (v : ℕ). (word_of c.args.x + v) % 2 ^ 32) e)
             ∙ top_below (word_of c.args.x) k c.requires.small c.requires.limited.0 c.requires.limited.1,
       );
     }

@@ -18,21 +18,21 @@ pub sec_add_modp-requires : goal.sec_add_modp-requires
 sec_add_modp-requires g c =
     let hx : length c.args.x ≡ g.row.M = search rules in
     let w = c.requires.within c.loop-i.i (omega arith) in
-    let e : word_of c.in-ok-part.part ≡ get_or c.args.x c.loop-i.i 0 = c.in-ok-part.ensures.by.1.2 ∙ word_public g.row.M _ c.requires.some c.public.ensures in
-    let v : word_of c.in-ok-part.part < c.args.ring.p = omega arith in
-    let f = c.loop-i.invariant.0.in-range in
+    let e : word_of c.in_ok-part.part ≡ get_or c.args.x c.loop-i.i 0 = c.in_ok-part.ensures.by.1.2 ∙ word_public g.row.M _ c.requires.some c.public.ensures in
+    let v : word_of c.in_ok-part.part < c.args.ring.p = omega arith in
+    let f = c.loop-i.invariant.0.in_range in
     search rules
 
-pub returns-in-err-part : goal.returns-in-err-part
-returns-in-err-part g c =
+pub returns-in_err-part : goal.returns-in_err-part
+returns-in_err-part g c =
     let t = times_below c.loop-i.i g.row.M (33 * pairs g.row.M) c.loop-i-test.true in
-    let s = short_of {b = g.row.M * (33 * pairs g.row.M)} (short_then c.loop-i.invariant.1 c.in-err-part.ensures.by) (omega arith) in
+    let s = short_of {b = g.row.M * (33 * pairs g.row.M)} (short_then c.loop-i.invariant.1 c.in_err-part.ensures.by) (omega arith) in
     search rules
 
-pub returns-in-err-sum : goal.returns-in-err-sum
-returns-in-err-sum g c =
+pub returns-in_err-sum : goal.returns-in_err-sum
+returns-in_err-sum g c =
     let t = times_below c.loop-i.i g.row.M (33 * pairs g.row.M) c.loop-i-test.true in
-    let s = short_of {b = g.row.M * (33 * pairs g.row.M)} (short_then (spent_then c.loop-i.invariant.1 c.in-ok-part.ensures.by.0) c.in-err-sum.ensures.by) (omega arith) in
+    let s = short_of {b = g.row.M * (33 * pairs g.row.M)} (short_then (spent_then c.loop-i.invariant.1 c.in_ok-part.ensures.by.0) c.in_err-sum.ensures.by) (omega arith) in
     search rules
 
 pub loop-i-preserved : goal.loop-i-preserved
@@ -42,11 +42,11 @@ loop-i-preserved g c =
     let u = residue_rule p in
     let laws = residue_laws p c.args.ring.some in
     let i = c.loop-i.i in
-    let e : word_of c.in-ok-part.part ≡ get_or c.args.x i 0 = c.in-ok-part.ensures.by.1.2 ∙ word_public g.row.M _ c.requires.some c.public.ensures in
-    let d = c.in-ok-sum.ensures.by in
+    let e : word_of c.in_ok-part.part ≡ get_or c.args.x i 0 = c.in_ok-part.ensures.by.1.2 ∙ word_public g.row.M _ c.requires.some c.public.ensures in
+    let d = c.in_ok-sum.ensures.by in
     let v = d.1 ∙ ap (λ (y : ℕ). (word_of c.loop-i.sum + y) % p) e in (
       subst (λ (z : ℕ). Left u laws c.args.x z (i + 1)) (sym v) (left-more u laws c.args.x (word_of c.loop-i.sum) i (omega arith) c.requires.within c.loop-i.invariant.0),
-      spent_as (spent_then (spent_then c.loop-i.invariant.1 c.in-ok-part.ensures.by.0) d.0) (let t = times_more i (33 * pairs g.row.M) in omega arith),
+      spent_as (spent_then (spent_then c.loop-i.invariant.1 c.in_ok-part.ensures.by.0) d.0) (let t = times_more i (33 * pairs g.row.M) in omega arith),
     )
 
 pub returns : goal.returns

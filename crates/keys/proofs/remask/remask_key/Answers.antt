@@ -29,7 +29,7 @@ loop-c-init g c =
 
 pub loop-c-preserved : goal.loop-c-preserved
 loop-c-preserved g c =
-    let d = c.in-ok-remask_coefficient.ensures in
+    let d = c.in_ok-remask_coefficient.ensures in
     let t = step_as c.of-ring.ensures c.degree-n.ensures record { refreshed = d.refreshed; others = d.others } in
     going_more g.S.ParamSet.params g.row.M c.args.key.now (g.W.Source.flow c.args.masks.now) t c.loop-c.invariant
 
@@ -40,11 +40,11 @@ returns g c =
     let e : c.loop-c.c ≡ 2 * g.S.ParamSet.params.n = omega arith in
     going-all g.S.ParamSet.params g.row.M c.args.key.now (g.W.Source.flow c.args.masks.now) (omega arith) (c.loop-c.auto.key ∙ c.requires.area.sized) e c.loop-c.invariant
 
-pub returns-in-err-remask_coefficient : goal.returns-in-err-remask_coefficient
-returns-in-err-remask_coefficient g c =
-    let d = c.in-err-remask_coefficient.ensures in
+pub returns-in_err-remask_coefficient : goal.returns-in_err-remask_coefficient
+returns-in_err-remask_coefficient g c =
+    let d = c.in_err-remask_coefficient.ensures in
     let t = step_as c.of-ring.ensures c.degree-n.ensures record { refreshed = d.refreshed; others = d.others } in
     let least = g.S.ParamSet.sound.n_least in
     let n = c.degree-n.ensures in
-    let p = err_from_is_err_and c.from-residual.result c.from-residual.ensures.1 in
+    let p = err_from_is_err_and c.from_residual.result c.from_residual.ensures.1 in
     rw (p.1, p.2) (going-short g.S.ParamSet.params g.row.M c.args.key.now (g.W.Source.flow c.args.masks.now) (omega arith) (c.remask_coefficient.auto.key ∙ c.loop-c.auto.key ∙ c.requires.area.sized) (let h = c.loop-c-test.true in let b = c.coefficients-c-end.ensures in omega arith) t c.loop-c.invariant)

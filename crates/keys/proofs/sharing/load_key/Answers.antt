@@ -33,7 +33,7 @@ load_coefficient-requires g c =
 pub loop-c-preserved : goal.loop-c-preserved
 loop-c-preserved g c =
     let s = g.S.ParamSet.params in
-    let d = c.in-ok-load_coefficient.ensures in
+    let d = c.in_ok-load_coefficient.ensures in
     let inside : c.loop-c.c < length c.args.secret.now = let n = c.degree-n.ensures in let h = c.loop-c-test.true in let b = c.coefficients-c-end.ensures in let l = c.requires.secret in omega arith in
     let fits : SFits w8 (get_or c.args.secret.now c.loop-c.c (pos 0)) = search rules in
     let v : c.secret_residue-value.result ≡ get_or (residues_of s c.args.secret.now) c.loop-c.c 0 = c.secret_residue-value.ensures ∙ ap (residue s.p) (to_z-of_z w8 _ fits) ∙ sym (get_or-map (residue s.p) c.args.secret.now c.loop-c.c (pos 0) 0 inside) in
@@ -47,10 +47,10 @@ returns g c =
     let e : c.loop-c.c ≡ 2 * g.S.ParamSet.params.n = omega arith in
     record { by = going-all g.S.ParamSet.params g.row.M c.args.secret.now (g.W.Source.flow c.args.masks.now) (omega arith) c.requires.secret (c.loop-c.auto.key ∙ c.requires.sized) e c.loop-c.invariant }
 
-pub returns-in-err-load_coefficient : goal.returns-in-err-load_coefficient
-returns-in-err-load_coefficient g c =
-    let d = c.in-err-load_coefficient.ensures in
+pub returns-in_err-load_coefficient : goal.returns-in_err-load_coefficient
+returns-in_err-load_coefficient g c =
+    let d = c.in_err-load_coefficient.ensures in
     let t = step_as c.of-ring.ensures c.degree-n.ensures record { split = d.split; others = d.others } in
     let n = c.degree-n.ensures in
-    let p = err_from_is_err_and c.from-residual.result c.from-residual.ensures.1 in
+    let p = err_from_is_err_and c.from_residual.result c.from_residual.ensures.1 in
     rw (p.1, p.2) record { by = going-short g.S.ParamSet.params g.row.M c.args.secret.now (g.W.Source.flow c.args.masks.now) (let h = c.loop-c-test.true in let b = c.coefficients-c-end.ensures in omega arith) t c.loop-c.invariant }

@@ -8,8 +8,8 @@ loop-i-init g c = drawing-none _ g.row.M c.unit-unit.result _ (g.G.Group.laws c.
 
 pub loop-i-preserved : goal.loop-i-preserved
 loop-i-preserved g c =
-    let d = c.in-ok-mask.ensures.by in
-    drawing-more _ g.row.M c.loop-i.i c.in-ok-mask.mask c.loop-i.shares _ _ _ (g.G.Group.laws c.args.group.now) c.loop-i.auto.i c.loop-i-test.true d.0 d.1 c.loop-i.invariant
+    let d = c.in_ok-mask.ensures.by in
+    drawing-more _ g.row.M c.loop-i.i c.in_ok-mask.mask c.loop-i.shares _ _ _ (g.G.Group.laws c.args.group.now) c.loop-i.auto.i c.loop-i-test.true d.0 d.1 c.loop-i.invariant
 
 pub returns : goal.returns
 returns g c =
@@ -17,7 +17,7 @@ returns g c =
     let d = drawing-all _ g.row.M c.loop-i.i c.loop-i.shares _ _ end c.loop-i.invariant in
     record { by = (d.0, d.1) }
 
-pub returns-in-err-mask : goal.returns-in-err-mask
-returns-in-err-mask g c =
-    let p = err_from_is_err_and c.from-residual.result c.from-residual.ensures.1 in
-    rw (p.1, p.2) record { by = drawing-short _ g.row.M c.loop-i.i _ c.loop-i.shares _ _ _ c.loop-i.auto.i c.loop-i-test.true c.in-err-mask.ensures.by c.loop-i.invariant }
+pub returns-in_err-mask : goal.returns-in_err-mask
+returns-in_err-mask g c =
+    let p = err_from_is_err_and c.from_residual.result c.from_residual.ensures.1 in
+    rw (p.1, p.2) record { by = drawing-short _ g.row.M c.loop-i.i _ c.loop-i.shares _ _ _ c.loop-i.auto.i c.loop-i-test.true c.in_err-mask.ensures.by c.loop-i.invariant }

@@ -28,15 +28,15 @@ open_coefficient-requires g c =
 
 pub coefficients-preserved : goal.coefficients-preserved
 coefficients-preserved g c =
-    let d = c.in-ok-out.ensures.by in
+    let d = c.in_ok-out.ensures.by in
     let h : c.coefficients.c < length c.coefficients.out = search rules in
     filling-more 0 _ _ _ c.coefficients.c c.coefficients.out _ _ _ h d.0 d.1 c.coefficients.invariant
 
-pub returns-in-err-out : goal.returns-in-err-out
-returns-in-err-out g c =
+pub returns-in_err-out : goal.returns-in_err-out
+returns-in_err-out g c =
     let n = c.degree-c-end.ensures in
-    let p = err_from_is_err_and c.from-residual.result c.from-residual.ensures.1 in
-    rw (p.1, p.2) record { opened = record { by = filling-short 0 _ _ _ g.S.ParamSet.params.n c.coefficients.c c.coefficients.out _ _ _ (omega arith) c.in-err-out.ensures.by c.coefficients.invariant }; residues = tt }
+    let p = err_from_is_err_and c.from_residual.result c.from_residual.ensures.1 in
+    rw (p.1, p.2) record { opened = record { by = filling-short 0 _ _ _ g.S.ParamSet.params.n c.coefficients.c c.coefficients.out _ _ _ (omega arith) c.in_err-out.ensures.by c.coefficients.invariant }; residues = tt }
 
 pub returns : goal.returns
 unfolding values

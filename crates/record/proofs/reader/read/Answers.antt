@@ -32,18 +32,18 @@ length_field s bytes e = grind (arith, nat_tests)
 kind_field : (s : Params) (bytes : List ℕ) → kind_test s bytes ≡ None → num2 bytes 4 ≡ kind s
 kind_field s bytes e = grind (arith, nat_tests)
 
-pub returns-in-err-body : goal.returns-in-err-body
-returns-in-err-body g c =
+pub returns-in_err-body : goal.returns-in_err-body
+returns-in_err-body g c =
     let s = g.S.ParamSet.params in
     let bytes = c.args.bytes.now in
-    let p = err_from_is_err_and c.from-residual.result c.from-residual.ensures.1 in
-    rw (p.1, p.2) (hits_two (size_test s bytes) (kind_test s bytes) (reach_test s bytes ∷ code_test s bytes ∷ []) _ c.in-err-body.ensures)
+    let p = err_from_is_err_and c.from_residual.result c.from_residual.ensures.1 in
+    rw (p.1, p.2) (hits_two (size_test s bytes) (kind_test s bytes) (reach_test s bytes ∷ code_test s bytes ∷ []) _ c.in_err-body.ensures)
 
 pub returns-in-Some : goal.returns-in-Some
 returns-in-Some g c =
     let s = g.S.ParamSet.params in
     let bytes = c.args.bytes.now in
-    let opens = c.in-ok-body.ensures in
+    let opens = c.in_ok-body.ensures in
     let z = z-place s bytes _ _ opens.3 c.split_body-record.ensures.z in
     let hit : reach_test s bytes ≡ Some (OutOfReach c.in-Some.index) =
     ap (at_index OutOfReach) (ap (λ (xs : List ℕ). first-at (far s) (z_of xs)) (sym z) ∙ sym c.first_far.ensures ∙ c.in-Some.is) in
@@ -51,9 +51,9 @@ returns-in-Some g c =
 
 pub first_unused-requires : goal.first_unused-requires
 first_unused-requires g c =
-    let opens = c.in-ok-body.ensures in
+    let opens = c.in_ok-body.ensures in
     let rest = ap length c.split_body-record.ensures.challenge in
-    omega (arith, rest, length-drop (34 + 4 * g.S.ParamSet.params.n) c.in-ok-body.body.now, ap length opens.3, length-drop 6 c.args.bytes.now, opens.2, g.S.ParamSet.sound.n_most)
+    omega (arith, rest, length-drop (34 + 4 * g.S.ParamSet.params.n) c.in_ok-body.body.now, ap length opens.3, length-drop 6 c.args.bytes.now, opens.2, g.S.ParamSet.sound.n_most)
 
 abbrev unused : ℕ → Bool
 unused code = eqb code 2
@@ -62,10 +62,10 @@ pub returns-in-Some-first_unused : goal.returns-in-Some-first_unused
 returns-in-Some-first_unused g c =
     let s = g.S.ParamSet.params in
     let bytes = c.args.bytes.now in
-    let opens = c.in-ok-body.ensures in
+    let opens = c.in_ok-body.ensures in
     let z = z-place s bytes _ _ opens.3 c.split_body-record.ensures.z in
     let codes = c-place s bytes _ _ opens.3 c.split_body-record.ensures.challenge in
-    let near : reach_test s bytes ≡ None = ap (at_index OutOfReach) (ap (λ (xs : List ℕ). first-at (far s) (z_of xs)) (sym z) ∙ sym c.first_far.ensures ∙ c.in-default.is) in
+    let near : reach_test s bytes ≡ None = ap (at_index OutOfReach) (ap (λ (xs : List ℕ). first-at (far s) (z_of xs)) (sym z) ∙ sym c.first_far.ensures ∙ c.in_default.is) in
     let hit : code_test s bytes ≡ Some (UnusedCode c.in-Some-first_unused.index) =
     ap (at_index UnusedCode) (ap (λ (xs : List ℕ). first-at unused (unpacked xs)) (sym codes) ∙ sym c.first_unused.ensures ∙ c.in-Some-first_unused.is) in
     passes (size_test s bytes) _ opens.0 ∙ passes (kind_test s bytes) _ opens.1 ∙ passes (reach_test s bytes) _ near ∙ hits (code_test s bytes) _ _ hit
@@ -75,12 +75,12 @@ returns g c =
     let s = g.S.ParamSet.params in
     let sound = g.S.ParamSet.sound in
     let bytes = c.args.bytes.now in
-    let opens = c.in-ok-body.ensures in
+    let opens = c.in_ok-body.ensures in
     let parts = c.split_body-record.ensures in
     let z = z-place s bytes _ _ opens.3 parts.z in
     let codes = c-place s bytes _ _ opens.3 parts.challenge in
-    let near : reach_test s bytes ≡ None = ap (at_index OutOfReach) (ap (λ (xs : List ℕ). first-at (far s) (z_of xs)) (sym z) ∙ sym c.first_far.ensures ∙ c.in-default.is) in
-    let used : first-at unused (unpacked (c-part s bytes)) ≡ None = ap (λ (xs : List ℕ). first-at unused (unpacked xs)) (sym codes) ∙ sym c.first_unused.ensures ∙ c.in-default-first_unused.is in (
+    let near : reach_test s bytes ≡ None = ap (at_index OutOfReach) (ap (λ (xs : List ℕ). first-at (far s) (z_of xs)) (sym z) ∙ sym c.first_far.ensures ∙ c.in_default.is) in
+    let used : first-at unused (unpacked (c-part s bytes)) ≡ None = ap (λ (xs : List ℕ). first-at unused (unpacked xs)) (sym codes) ∙ sym c.first_unused.ensures ∙ c.in_default-first_unused.is in (
       passes (size_test s bytes) _ opens.0 ∙ passes (kind_test s bytes) _ opens.1 ∙ passes (reach_test s bytes) _ near ∙ passes (code_test s bytes) _ (ap (at_index UnusedCode) used),
       parts.counter ∙ counter-place bytes _ opens.3,
       parts.digest ∙ ap (λ (xs : List ℕ). take 32 (drop 2 xs)) opens.3 ∙ ap (take 32) (drop-drop 2 6 bytes),

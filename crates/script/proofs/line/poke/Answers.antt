@@ -4,4 +4,4 @@ use Rattle.script.proofs.line.poke.Goals as goal
 pub returns : goal.returns
 returns c =
     let e = split_space _ c.in-Some-split_once.name c.in-Some-split_once.place c.in-Some-split_once.ensures.cases in
-    simp (c.in-Some.is, e, c.in-ok-named_area.ensures) c.poke_at.ensures
+    simp (c.in-Some.is, e, c.in_ok-named_area.ensures) c.poke_at.ensures

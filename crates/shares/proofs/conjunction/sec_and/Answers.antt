@@ -17,13 +17,13 @@ loop-i-init g c =
 pub loop-j-init : goal.loop-j-init
 loop-j-init g c = crosses_start (sym (rows_more c.loop-i.i _ c.loop-i-test.true))
 
-pub returns-in-err-r : goal.returns-in-err-r
-returns-in-err-r g c =
+pub returns-in_err-r : goal.returns-in_err-r
+returns-in_err-r g c =
     let m = g.row.M in
     let i = c.loop-i.i in
     let e = ap (λ r. r ++ rows (i + 1) (m - (i + 1))) (row_more i c.loop-j.j m c.loop-j-test.true) in
     let h = length_rows 0 m in
-    let s = short_of {b = pairs m} (crosses_short (crosses_then c.loop-j.invariant refl c.loop-i.invariant) e c.in-err-r.ensures) (omega arith) in
+    let s = short_of {b = pairs m} (crosses_short (crosses_then c.loop-j.invariant refl c.loop-i.invariant) e c.in_err-r.ensures) (omega arith) in
     search rules
 
 pub loop-j-preserved : goal.loop-j-preserved
@@ -31,7 +31,7 @@ loop-j-preserved g c =
     let m = g.row.M in
     let i = c.loop-i.i in
     let e = ap (λ r. r ++ rows (i + 1) (m - (i + 1))) (row_more i c.loop-j.j m c.loop-j-test.true) in
-    crosses_then (crosses_pair c.in-ok-r.ensures _ e) refl c.loop-j.invariant
+    crosses_then (crosses_pair c.in_ok-r.ensures _ e) refl c.loop-j.invariant
 
 pub loop-i-preserved : goal.loop-i-preserved
 loop-i-preserved g c =

@@ -11,7 +11,7 @@ loop-i-init g c =
 pub join-value-requires : goal.join-value-requires
 join-value-requires g c =
     let hx : length c.args.shares ≡ g.row.M = search rules in
-    (c.loop-i.invariant.in-range, c.requires.within c.loop-i.i (omega arith))
+    (c.loop-i.invariant.in_range, c.requires.within c.loop-i.i (omega arith))
 
 pub loop-i-preserved : goal.loop-i-preserved
 loop-i-preserved g c =

@@ -12,31 +12,31 @@ use Rattle.till.specs.Verdict.{above, verdict}
 use Rattle.till.specs.Verification.{answering, content, expected}
 use Rattle.till.specs.declared.payment.Payment.{Payment}
 
-pub returns-in-err-check_key : goal.returns-in-err-check_key
-returns-in-err-check_key g c =
+pub returns-in_err-check_key : goal.returns-in_err-check_key
+returns-in_err-check_key g c =
     let s = g.S.ParamSet.params in
     let sound = g.S.ParamSet.sound in
     let key = c.args.self.now.key.now in
     let last = c.args.self.now.last in
     let bytes = c.args.bytes.now in
-    let r = c.from-residual.result in
-    let p = err_from_is_err_and r c.from-residual.ensures.1 in
+    let r = c.from_residual.result in
+    let p = err_from_is_err_and r c.from_residual.ensures.1 in
     let is = p.1 ∙ ap Err p.2 in
-    let answer = refused s sound key last bytes r _ is (key-refused s sound key last bytes _ c.in-err-check_key.ensures) in
+    let answer = refused s sound key last bytes r _ is (key-refused s sound key last bytes _ c.in_err-check_key.ensures) in
     record { answer = answer; last = unchanged s sound key last bytes r _ is; key = refl; accepts = ok-accepts s sound key last bytes r answer; accepted = accepts-ok s sound key last bytes r answer }
 
-pub returns-in-err-record : goal.returns-in-err-record
-returns-in-err-record g c =
+pub returns-in_err-record : goal.returns-in_err-record
+returns-in_err-record g c =
     let s = g.S.ParamSet.params in
     let sound = g.S.ParamSet.sound in
     let key = c.args.self.now.key.now in
     let last = c.args.self.now.last in
     let bytes = c.args.bytes.now in
-    let opens = c.in-ok-check_key.ensures in
-    let r = c.from-residual-in-err-record.result in
-    let p = err_from_is_err_and r c.from-residual-in-err-record.ensures.1 in
+    let opens = c.in_ok-check_key.ensures in
+    let r = c.from_residual-in_err-record.result in
+    let p = err_from_is_err_and r c.from_residual-in_err-record.ensures.1 in
     let is = p.1 ∙ ap Err p.2 in
-    let answer = refused s sound key last bytes r _ is (record-refused s sound key last bytes opens.0 opens.1 _ c.in-err-record.ensures) in
+    let answer = refused s sound key last bytes r _ is (record-refused s sound key last bytes opens.0 opens.1 _ c.in_err-record.ensures) in
     record { answer = answer; last = unchanged s sound key last bytes r _ is; key = refl; accepts = ok-accepts s sound key last bytes r answer; accepted = accepts-ok s sound key last bytes r answer }
 
 pub answers-requires : goal.answers-requires
@@ -44,9 +44,9 @@ answers-requires g c =
     let s = g.S.ParamSet.params in
     let sound = g.S.ParamSet.sound in
     let bytes = c.args.bytes.now in
-    let parts = c.in-ok-record.ensures in
+    let parts = c.in_ok-record.ensures in
     record {
-      key = c.in-ok-check_key.ensures.2;
+      key = c.in_ok-check_key.ensures.2;
       z = length-z-part s sound bytes parts.0 _ parts.3;
       challenge = length-c-part s sound bytes parts.0 _ parts.4;
     }
@@ -62,10 +62,10 @@ returns-then-not-answers g c =
     let key = c.args.self.now.key.now in
     let last = c.args.self.now.last in
     let bytes = c.args.bytes.now in
-    let opens = c.in-ok-check_key.ensures in
-    let parts = c.in-ok-record.ensures in
-    let says = content_is s bytes c.in-ok-record.record parts.1 parts.2 parts.3 parts.4 in
-    let other = told s key bytes c.in-ok-record.record _ says c.answers.ensures ∙ c.if-not-answers.true in
+    let opens = c.in_ok-check_key.ensures in
+    let parts = c.in_ok-record.ensures in
+    let says = content_is s bytes c.in_ok-record.record parts.1 parts.2 parts.3 parts.4 in
+    let other = told s key bytes c.in_ok-record.record _ says c.answers.ensures ∙ c.if-not-answers.true in
     let r : Result Payment Refusal = Err OtherChallenge in
     let answer = refused s sound key last bytes r OtherChallenge refl (challenge-refused s sound key last bytes opens.0 opens.1 parts.0 other) in
     record { answer = answer; last = refl; key = refl; accepts = ok-accepts s sound key last bytes r answer; accepted = accepts-ok s sound key last bytes r answer }
@@ -77,10 +77,10 @@ returns-then-not-above g c =
     let key = c.args.self.now.key.now in
     let last = c.args.self.now.last in
     let bytes = c.args.bytes.now in
-    let opens = c.in-ok-check_key.ensures in
-    let parts = c.in-ok-record.ensures in
-    let says = content_is s bytes c.in-ok-record.record parts.1 parts.2 parts.3 parts.4 in
-    let same = told s key bytes c.in-ok-record.record _ says c.answers.ensures ∙ c.if-not-answers.false in
+    let opens = c.in_ok-check_key.ensures in
+    let parts = c.in_ok-record.ensures in
+    let says = content_is s bytes c.in_ok-record.record parts.1 parts.2 parts.3 parts.4 in
+    let same = told s key bytes c.in_ok-record.record _ says c.answers.ensures ∙ c.if-not-answers.false in
     let stale = ap (above last) (sym parts.1) ∙ sym c.above.ensures ∙ c.if-not-above.true in
     let r : Result Payment Refusal = Err Stale in
     let answer = refused s sound key last bytes r Stale refl (counter-refused s sound key last bytes opens.0 opens.1 parts.0 same stale) in
@@ -88,7 +88,7 @@ returns-then-not-above g c =
 
 pub new-requires : goal.new-requires
 new-requires g c =
-    let parts = c.in-ok-record.ensures in
+    let parts = c.in_ok-record.ensures in
     length-digest g.S.ParamSet.params g.S.ParamSet.sound c.args.bytes.now parts.0 _ parts.2
 
 pub returns : goal.returns
@@ -98,10 +98,10 @@ returns g c =
     let key = c.args.self.now.key.now in
     let last = c.args.self.now.last in
     let bytes = c.args.bytes.now in
-    let opens = c.in-ok-check_key.ensures in
-    let parts = c.in-ok-record.ensures in
-    let says = content_is s bytes c.in-ok-record.record parts.1 parts.2 parts.3 parts.4 in
-    let same = told s key bytes c.in-ok-record.record _ says c.answers.ensures ∙ c.if-not-answers.false in
+    let opens = c.in_ok-check_key.ensures in
+    let parts = c.in_ok-record.ensures in
+    let says = content_is s bytes c.in_ok-record.record parts.1 parts.2 parts.3 parts.4 in
+    let same = told s key bytes c.in_ok-record.record _ says c.answers.ensures ∙ c.if-not-answers.false in
     let fresh = ap (above last) (sym parts.1) ∙ sym c.above.ensures ∙ c.if-not-above.false in
     let paid = payment_is s bytes c.new.result (c.new.ensures.0 ∙ parts.1) (c.new.ensures.1 ∙ parts.2) in
     let r : Result Payment Refusal = Ok c.new.result in

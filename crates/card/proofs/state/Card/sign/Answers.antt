@@ -19,7 +19,7 @@ front_proper n k p xs e l r =
 
 pub sign_counted-ending-requires : goal.sign_counted-ending-requires
 sign_counted-ending-requires g c =
-    let k = c.in-ok-check_sign.ensures.1 in
+    let k = c.in_ok-check_sign.ensures.1 in
     let s = g.S.ParamSet.params in
     record {
       some = c.args.self.now.some;
@@ -34,7 +34,7 @@ sign_counted-ending-requires g c =
 pub returns-in-Ok : goal.returns-in-Ok
 returns-in-Ok g c =
     let s = g.S.ParamSet.params in
-    let t = c.in-ok-check_sign.ensures in
+    let t = c.in_ok-check_sign.ensures in
     let card = c.args.self.now in
     let m = card.shares in
     let public = c.args.public.now in
@@ -61,7 +61,7 @@ returns-in-Ok g c =
 pub returns : goal.returns
 returns g c =
     let s = g.S.ParamSet.params in
-    let t = c.in-ok-check_sign.ensures in
+    let t = c.in_ok-check_sign.ensures in
     let card = c.args.self.now in
     let m = card.shares in
     let public = c.args.public.now in

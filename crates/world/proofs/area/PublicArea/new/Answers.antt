@@ -5,9 +5,9 @@ use Rattle.world.proofs.area.PublicArea.new.Goals as goal
 
 pub invariant_of-result : goal.invariant_of-result
 invariant_of-result c =
-    let long = ap length c.in-ok-words.ensures ∙ length-replicate _ 0 in
-    let same = c.in-ok-words.words.ok.0 in
+    let long = ap length c.in_ok-words.ensures ∙ length-replicate _ 0 in
+    let same = c.in_ok-words.words.ok.0 in
     (omega arith, tt)
 
 pub returns : goal.returns
-returns c = parts_zeros c.args.n _ c.in-ok-words.ensures
+returns c = parts_zeros c.args.n _ c.in_ok-words.ensures

@@ -9,7 +9,7 @@ returns c =
     let words = vec_items c.args.words in
     let lent = c.as_slice.result.now in
     let value = c.as_slice.ensures.value in
-    let joined = c.in-ok-extend_from_slice.ensures.items in
+    let joined = c.in_ok-extend_from_slice.ensures.items in
     let tail = between_to_end lent c.args.self.now.split (length lent) (omega arith) in
     let items : vec_items c.extend_from_slice.new.self ≡ words ++ t_of c.args.self.now = cc in
     parts_joined words (t_of c.args.self.now) (vec_items c.extend_from_slice.new.self) c.len-split.result items (c.len-split.ensures ∙ c.args.words.ok.0)

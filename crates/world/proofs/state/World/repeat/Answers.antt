@@ -19,8 +19,8 @@ calls-init c = (omega arith, none)
 pub calls-preserved : goal.calls-preserved
 calls-preserved c =
     let inv = c.calls.invariant in
-    let answer = c.in-ok-answer.answer in
-    let once = more inv.1 c.in-ok-answer.ensures in
+    let answer = c.in_ok-answer.answer in
+    let once = more inv.1 c.in_ok-answer.ensures in
     let one = c.from-done.ensures ∙ ap bool_byte c.is_ok.ensures ∙ bit (is_ok answer) in (
       omega (arith, c.from-done.ensures, bit_le c.is_ok.result),
       subst (λ (n : ℕ). Repeated c.args.self.now c.args.call.now (c.calls.-turn + 1) (c.calls.done + n) (Some answer) c.call.new.self) (sym one) once,
