@@ -9,7 +9,7 @@ use Rattle.refusal.specs.declared.fault.Step.TheVariants.{Commit, Check, Open}
 use Rattle.record.specs.Reading.{all_near}
 use Rattle.ring.specs.Ring.{centre, plus, product}
 use Rattle.plain.specs.Costs.{cost}
-use Rattle.plain.specs.Run.{Outcome, nonces-ended, masks-ended}
+use Rattle.plain.specs.Run.{Outcome, nonces_ended, masks_ended}
 use Rattle.drawing.specs.Resume.{Subject, Stops}
 use Rattle.drawing.specs.Drawing.{Drawing}
 use Rattle.attempt.specs.declared.stopped.Stopped.{Stopped}
@@ -19,8 +19,8 @@ use Rattle.attempt.specs.declared.stage.Committed.{Committed}
 
 -- how a signing ends that is stopped so
 abbrev pub outcome_of : Stopped → Outcome
-outcome_of (Nonces fault) = nonces-ended fault
-outcome_of (Masks fault) = masks-ended fault
+outcome_of (Nonces fault) = nonces_ended fault
+outcome_of (Masks fault) = masks_ended fault
 
 -- the attempt that a source ended in
 abbrev pub attempt_of : Stopped → ℕ

@@ -34,9 +34,9 @@ published : (s : Params) (m : ℕ) (secret : List ℤ) (o : Option Refusal) (l :
 published s m secret (Some e) l public public' key key' f f' h = absurd (let z : ◌≡◌ {A = ℕ} 0 1 = let e = h.0 in cc in omega arith)
 published s m secret None l public public' key key' f f' h = h.0.published
 
-pub begins-with : (s : Params) → Sound s → (m : ℕ) (secret : List ℤ) (o : Option Refusal) (l : Loaded) (public public' key key' : List ℕ) (f f' : Flow) → LoadBy s m secret o (Ok l) public public' key key' f f'
+pub begins_with : (s : Params) → Sound s → (m : ℕ) (secret : List ℤ) (o : Option Refusal) (l : Loaded) (public public' key key' : List ℕ) (f f' : Flow) → LoadBy s m secret o (Ok l) public public' key key' f f'
     → Loadable s m secret public key → recombined s m key' ≡ residues_of s secret → Residues s.p key' → length key' ≡ length key → Begins s m secret public (areas key' public' [] []) f'
-begins-with s sound m secret o l public public' key key' f f' h able value residues kept =
+begins_with s sound m secret o l public public' key key' f f' h able value residues kept =
     let sized : length key' ≡ 2 * m * s.n = kept ∙ able.key_sized in
     let whole : Residues s.p (residues_of s secret) = subst (Residues s.p) value (recombined_residues s sound m key' sized residues) in
     let long : length (residues_of s secret) ≡ 2 * s.n = sym (ap length value) ∙ recombined-long s m key' in

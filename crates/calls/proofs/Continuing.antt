@@ -10,7 +10,7 @@ use Rattle.refusal.specs.declared.Refusal.{Refusal}
 use Rattle.refusal.specs.declared.Refusal.TheVariants.{AreaSize, NotResidue}
 use Rattle.refusal.specs.Tests.{unless, at_index, first_hit}
 use Rattle.ring.specs.Ring.{Residues}
-use Rattle.search.specs.First.{first-at}
+use Rattle.search.specs.First.{first_at}
 use Rattle.search.proofs.Searching.{all-miss}
 use Rattle.words.specs.Flow.{Flow}
 use Rattle.polys.specs.Area.{recombined}
@@ -67,7 +67,7 @@ goes_on made n f events e reply before after x x' lives digested next own =
     }
 
 -- residues pass the test of an area's words
-words_pass : (p : ℕ) (e : ℕ → Refusal) (xs : List ℕ) → Residues p xs → at_index e (first-at (leb p) xs) ≡ None
+words_pass : (p : ℕ) (e : ℕ → Refusal) (xs : List ℕ) → Residues p xs → at_index e (first_at (leb p) xs) ≡ None
 words_pass p e xs r = ap (at_index e) (all-miss 0 (leb p) xs (λ k h. lt-leb p (get_or xs k 0) (r k h)))
 
 module _ (made : MadeCard) (sound : SoundCard made) (x : Areas) (own : OwnAreas made x) where

@@ -8,9 +8,9 @@ use Rattle.refusal.specs.declared.fault.Counts.{Counts}
 use Rattle.refusal.specs.Tests.{unless, at_index, first_hit}
 use Rattle.record.specs.Layout.{Content, encode, size}
 use Rattle.ring.specs.Ring.{Residues}
-use Rattle.search.specs.First.{first-at}
+use Rattle.search.specs.First.{first_at}
 use Rattle.words.specs.Flow.{Flow}
-use Rattle.plain.specs.Run.{Outcome, Run, signed, nonces-ended, masks-ended, all_failed, counts_of, sign}
+use Rattle.plain.specs.Run.{Outcome, Run, signed, nonces_ended, masks_ended, all_failed, counts_of, sign}
 use Rattle.attempt.specs.Attempt.{key_in}
 use Rattle.attempt.specs.Stages.{outcome_of}
 use Rattle.signing.specs.declared.failure.Failure.{Failure}
@@ -25,7 +25,7 @@ abbrev pub areas_test : Params → ℕ → (key public work bytes : List ℕ) �
 areas_test s m key public work bytes = unless (length public == 2 * s.n && (length key == 2 * m * s.n && (length work == 6 * m * s.n && length bytes == size s))) AreaSize
 
 abbrev pub public_test : Params → List ℕ → Option Refusal
-public_test s public = at_index (NotResidue Public) (first-at (leb s.p) public)
+public_test s public = at_index (NotResidue Public) (first_at (leb s.p) public)
 
 abbrev pub tries_test : ℕ → Option Refusal
 tries_test tries = unless (nat_le 1 tries && nat_le tries 255) Tries
@@ -56,8 +56,8 @@ TestsSign s m counter tries key public work bytes (Err e) = first_hit (sign_test
 -- what a run answers, with what it took
 abbrev pub answer_of : Outcome → Counts → Result Signed Refusal
 answer_of (signed r) counts = Ok (record { counter = r.counter; counts = counts })
-answer_of (nonces-ended fault) counts = Err (NoncesEndedAt fault counts)
-answer_of (masks-ended fault) counts = Err (MasksEndedAt fault counts)
+answer_of (nonces_ended fault) counts = Err (NoncesEndedAt fault counts)
+answer_of (masks_ended fault) counts = Err (MasksEndedAt fault counts)
 answer_of all_failed counts = Err (TriesFailed counts)
 
 -- how a signing ends that fails so
@@ -68,15 +68,15 @@ outcome_in FailedTries = all_failed
 -- the counter after it: a record raises it by one
 abbrev pub counter_after : Outcome → ℕ → ℕ
 counter_after (signed r) counter = counter + 1
-counter_after (nonces-ended fault) counter = counter
-counter_after (masks-ended fault) counter = counter
+counter_after (nonces_ended fault) counter = counter
+counter_after (masks_ended fault) counter = counter
 counter_after all_failed counter = counter
 
 -- the record area after it
 abbrev pub record_after : Params → Outcome → List ℕ → List ℕ
 record_after s (signed r) bytes = encode s r
-record_after s (nonces-ended fault) bytes = bytes
-record_after s (masks-ended fault) bytes = bytes
+record_after s (nonces_ended fault) bytes = bytes
+record_after s (masks_ended fault) bytes = bytes
 record_after s all_failed bytes = bytes
 
 -- a sign does what the run does, and leaves the work area zeroed

@@ -10,7 +10,7 @@ use Rattle.refusal.specs.declared.fault.Step.TheVariants.{Candidate, Conversion}
 use Rattle.shares.specs.Refresh.{pairs}
 use Rattle.plain.specs.Nonces.{limit, whole, cut_short, candidate, coefficient}
 use Rattle.plain.specs.Costs.{cost, mask_words}
-use Rattle.plain.specs.Run.{Setting, Run, Outcome, Fate, nonces-ended, masks_ended, unfinished, at, choose, closed, finish, run, stop}
+use Rattle.plain.specs.Run.{Setting, Run, Outcome, Fate, nonces_ended, masks_ended, unfinished, at, choose, closed, finish, run, stop}
 use Rattle.plain.proofs.Groups.{flat, whole-and-cut, whole-few, cut_all, whole-more, cut-more}
 use Rattle.plain.proofs.Paths.{choose_is, charge-paid, charge-short, consider-short, consider-refused, consider-accepted}
 use Rattle.drawing.specs.Resume.{Subject, Supply, setting_of, resume, Fits, Leads, Stops}
@@ -58,7 +58,7 @@ module _ (s : Params) (m : ℕ) (pos : 0 < m) (u : Subject) where
   }
 
   -- the nonces end within a group
-  pub nonces-short : (ws y : List ℕ) (e : Mark) (n n' f : Flow) → length y < 2 * s.n → Short m e n n' → Stops s m u ws y (λ a. nonces-ended (record { mark = e; attempt = a; step = Candidate (at s (length y)) })) n n' f f
+  pub nonces-short : (ws y : List ℕ) (e : Mark) (n n' f : Flow) → length y < 2 * s.n → Short m e n n' → Stops s m u ws y (λ a. nonces_ended (record { mark = e; attempt = a; step = Candidate (at s (length y)) })) n n' f f
   nonces-short ws y e n n' f h t = record {
     words = ws ++ n.words;
     fate = unfinished;
@@ -72,7 +72,7 @@ module _ (s : Params) (m : ℕ) (pos : 0 < m) (u : Subject) where
         let E = setting_of s m u x in
         let c : x.cut ≡ n.words = p.cut ∙ cut_all m n.words t.few in
         let last : (c : List ℕ) (k : Mark) (i j : ℕ) (left : List ℕ) → Run =
-        λ c k i j left. stop E (nonces-ended (record { mark = k; attempt = a; step = Candidate (at s (length y)) })) (ws ++ c) unfinished i (length c) j left in
+        λ c k i j left. stop E (nonces_ended (record { mark = k; attempt = a; step = Candidate (at s (length y)) })) (ws ++ c) unfinished i (length c) j left in
         wanting x more a ws y i₀ k₀ n.words h
         ∙ ap (run E more a ws y i₀ k₀) (whole-few m n.words t.few)
         ∙ ap (λ (c : List ℕ). last c x.nonce_mark i₀ k₀ []) c

@@ -7,7 +7,7 @@ use Rattle.words.specs.Spending.{Spent}
 use Rattle.refusal.specs.declared.fault.Step.{Step}
 use Rattle.steps.specs.declared.Ended.{Ended}
 use Rattle.steps.specs.declared.Ended.TheVariants.{Nonces, Masks}
-use Rattle.plain.specs.Run.{Outcome, nonces-ended, masks-ended}
+use Rattle.plain.specs.Run.{Outcome, nonces_ended, masks_ended}
 use Rattle.drawing.specs.declared.halt.Halt.{Halt}
 use Rattle.drawing.specs.Resume.{Subject, Leads, Stops}
 
@@ -22,8 +22,8 @@ pub record Drawing (s : Params) (m : ℕ) (u : Subject) (y : List ℕ) (n n' f f
 
 -- how a signing ends in which a source ends in attempt a
 abbrev pub ended_by : Ended → Step → ℕ → Outcome
-ended_by (Nonces e) step a = nonces-ended (record { mark = e; attempt = a; step = step })
-ended_by (Masks e) step a = masks-ended (record { mark = e; attempt = a; step = step })
+ended_by (Nonces e) step a = nonces_ended (record { mark = e; attempt = a; step = step })
+ended_by (Masks e) step a = masks_ended (record { mark = e; attempt = a; step = step })
 
 abbrev pub halted : Halt → ℕ → Outcome
 halted h a = ended_by h.ended h.step a

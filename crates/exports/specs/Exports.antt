@@ -4,12 +4,12 @@ use Rattle.params.specs.Params.{set_i}
 use Rattle.refusal.specs.Told.{number_of}
 use Rattle.refusal.specs.declared.Refusal.{Refusal}
 use Rattle.ring.specs.Ring.{product}
-use Rattle.search.specs.First.{first-at}
+use Rattle.search.specs.First.{first_at}
 use Rattle.till.specs.declared.payment.Payment.{Payment}
 
 -- n words, and none is the modulus or more
 abbrev pub is_polynomial : List ℕ → Bool
-is_polynomial words = length words == set_i.n && not (is_some (first-at (nat_le set_i.p) words))
+is_polynomial words = length words == set_i.n && not (is_some (first_at (nat_le set_i.p) words))
 
 -- both factors are polynomials, and the area for the product has its size
 abbrev pub multiplies : List ℕ → List ℕ → List ℕ → Bool

@@ -6,7 +6,7 @@ use Rattle.refusal.specs.declared.Refusal.{Refusal}
 use Rattle.refusal.specs.declared.Refusal.TheVariants.{ShareCount, AreaSize, NotResidue, NotTernary}
 use Rattle.refusal.specs.Tests.{unless, at_index, first_hit}
 use Rattle.ring.specs.Ring.{Residues, residue, plus, product}
-use Rattle.search.specs.First.{first-at}
+use Rattle.search.specs.First.{first_at}
 use Rattle.shares.specs.Rule.{Rule, Within, recombine}
 use Rattle.shares.specs.Groups.{residue_rule}
 use Rattle.polys.specs.Area.{shares_of, recombined}
@@ -23,10 +23,10 @@ abbrev pub sizes_test : Params → ℕ → List ℤ → List ℕ → List ℕ �
 sizes_test s m secret public key = unless (length public == 2 * s.n && (length secret == 2 * s.n && length key == 2 * m * s.n)) AreaSize
 
 abbrev pub a_test : Params → List ℕ → Option Refusal
-a_test s public = at_index (NotResidue Public) (first-at (leb s.p) (take s.n public))
+a_test s public = at_index (NotResidue Public) (first_at (leb s.p) (take s.n public))
 
 abbrev pub secret_test : List ℤ → Option Refusal
-secret_test secret = at_index NotTernary (first-at not_ternary secret)
+secret_test secret = at_index NotTernary (first_at not_ternary secret)
 
 -- in their order
 abbrev pub load_tests : Params → ℕ → List ℤ → List ℕ → List ℕ → List (Option Refusal)

@@ -3,7 +3,7 @@ ghost use Rattle.std.specs.Prelude.{◌≡◌, ℕ, ◌+◌, ◌-◌, ◌*◌, �
 ghost use Rattle.keys.specs.Load.{Holds, Splits, TestsLoad, load_cost, not_ternary};
 ghost use Rattle.polys.specs.Area.{shares_of};
 ghost use Rattle.ring.specs.Ring.{residue};
-ghost use Rattle.search.specs.First.{first-at};
+ghost use Rattle.search.specs.First.{first_at};
 ghost use Rattle.shares.specs.Groups.{residue_rule};
 ghost use Rattle.words.specs.Spending.{Spends};
 
@@ -24,7 +24,7 @@ fn is_not_ternary(coefficient: i8) -> bool
 
 // The lowest index of a coefficient that is not −1, 0 or 1.
 fn first_not_ternary(secret: &[i8]) -> Option<usize>
-    ensures { result ≡ first-at not_ternary secret.now }
+    ensures { result ≡ first_at not_ternary secret.now }
 {
     'coefficients: for i in 0..secret.len() {
         if is_not_ternary(secret[i]) {

@@ -7,12 +7,12 @@ use Rattle.refusal.specs.declared.Refusal.TheVariants.{MasksEnded}
 use Rattle.refusal.specs.declared.fault.Counts.{Counts}
 use Rattle.refusal.specs.Tests.{first_hit}
 use Rattle.plain.specs.Nonces.{candidates}
-use Rattle.plain.specs.Run.{Outcome, signed, nonces-ended, masks_ended, all_failed, Run}
+use Rattle.plain.specs.Run.{Outcome, signed, nonces_ended, masks_ended, all_failed, Run}
 use Rattle.plain.specs.Laws.{short_of_masks, Agree}
 use Rattle.plain.proofs.Twins.{signs-alike}
 use Rattle.life.specs.declared.call.Call.{Call}
 use Rattle.life.specs.declared.call.Call.TheVariants.{Sign, Remask, Report}
-use Rattle.life.specs.Life.{Event, MadeCard, CardState, Answer, remasked, loaded, sign_tests, sign_answer, after_sign, run_of, remask-words, answer_to, after_call, moved}
+use Rattle.life.specs.Life.{Event, MadeCard, CardState, Answer, remasked, loaded, sign_tests, sign_answer, after_sign, run_of, remask_words, answer_to, after_call, moved}
 use Rattle.life.specs.Life as life
 use Rattle.card.specs.Sign.{answer_of, counter_after, record_after}
 use Rattle.life.specs.Laws.{Told, of_sign, of_report, told, refusal_in, for_masks, MasksLast, with_shares, AlikeLaw}
@@ -20,7 +20,7 @@ use Rattle.life.specs.Laws.{Told, of_sign, of_report, told, refusal_in, for_mask
 -- a run has refusal 22 exactly where it is short of masks
 masks_end : (o : Outcome) (counts : Counts) (bytes : List ℕ) → for_masks (refusal_in (of_sign (answer_of o counts) bytes)) ≡ short_of_masks o
 masks_end (signed r) counts bytes = refl
-masks_end (nonces-ended f) counts bytes = refl
+masks_end (nonces_ended f) counts bytes = refl
 masks_end (masks_ended f) counts bytes = refl
 masks_end all_failed counts bytes = refl
 
@@ -79,7 +79,7 @@ module _ (made : MadeCard) (m : ℕ) (some : 0 < made.shares) (some' : 0 < m) wh
     next (Sign digest tries) fits =
         sign-next digest tries (first_hit (sign_tests c.counter tries fits)) (first_hit (sign_tests c'.counter tries fits)) (ap (λ (k : ℕ). first_hit (sign_tests k tries fits)) twin.counters)
     next Remask true = λ h h'. record {
-      tells = remask-tells (leb (remask-words made) (length c.masks.words)) (leb (remask-words other) (length c'.masks.words)) (remask-words made) (remask-words other) c.masks.mark c'.masks.mark h h';
+      tells = remask-tells (leb (remask_words made) (length c.masks.words)) (leb (remask_words other) (length c'.masks.words)) (remask_words made) (remask_words other) c.masks.mark c'.masks.mark h h';
       twins = remask-twins true;
     }
     next Remask false = λ h h'. record { tells = refl; twins = remask-twins false }

@@ -22,7 +22,7 @@ use Rattle.life.specs.declared.call.Call.{Call}
 use Rattle.life.specs.declared.call.Call.TheVariants.{Sign, Remask, Report}
 use Rattle.life.specs.Life.{Event, MadeCard, CardState, answer_to, moved, life, loaded, record_of, records}
 use Rattle.life.specs.Life as life
-use Rattle.life.specs.Shown.{last-shown}
+use Rattle.life.specs.Shown.{last_shown}
 use Rattle.life.specs.Laws.{SoundCard, Digested, till_key, payment_of, JudgedByCounter, NewerLaw}
 use Rattle.life.proofs.Tills.{down, up}
 use Rattle.life.proofs.Turns.{Genuine, turn}
@@ -84,7 +84,7 @@ module _ (made : MadeCard) (card : SoundCard made) where
 
     judged : (before : List (List ℕ)) → JudgedByCounter made r before
     judged before =
-        let last = last-shown s key None before in
+        let last = last_shown s key None before in
         let b = above last r.counter in
         record {
           accepts = (

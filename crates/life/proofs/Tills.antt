@@ -8,7 +8,7 @@ use Rattle.refusal.specs.Tests.{first_hit}
 use Rattle.till.specs.declared.payment.Payment.{Payment}
 use Rattle.till.specs.Verdict.{above, answer, last_after, payment, tests, verdict}
 use Rattle.till.proofs.Accepting.{none-accepts}
-use Rattle.life.specs.Shown.{payment_in, last-shown, accepted}
+use Rattle.life.specs.Shown.{payment_in, last_shown, accepted}
 
 above_more : (last : Option ℕ) (c d : ℕ) → above last c ≡ true → c < d → above last d ≡ true
 above_more None c d e h = refl
@@ -32,10 +32,10 @@ module _ (s : Params) (sound : Sound s) (key : List ℕ) (c : ℕ) where
 
   -- c is above the last counter, so it is above all that were accepted
   abbrev Down : Option ℕ → List (List ℕ) → Type 0
-  Down last shown = above (last-shown s key last shown) c ≡ true → (above last c ≡ true) × Below (accepted s key last shown)
+  Down last shown = above (last_shown s key last shown) c ≡ true → (above last c ≡ true) × Below (accepted s key last shown)
 
   down_by : (last : Option ℕ) (v : Result Payment Refusal) (more : List (List ℕ)) → Fresh last v → ((l : Option ℕ) → Down l more) →
-      above (last-shown s key (last_after last v) more) c ≡ true → (above last c ≡ true) × Below (payment_in v ++ accepted s key (last_after last v) more)
+      above (last_shown s key (last_after last v) more) c ≡ true → (above last c ≡ true) × Below (payment_in v ++ accepted s key (last_after last v) more)
   down_by last (Err e) more f ih h = ih last h
   down_by last (Ok paid) more f ih h =
       let r = ih (Some paid.counter) h in
@@ -46,15 +46,15 @@ module _ (s : Params) (sound : Sound s) (key : List ℕ) (c : ℕ) where
   down-from [] last h = (h, tt)
   down-from (bytes ∷ more) last h = down_by last (verdict s key last bytes) more (fresh last bytes) (down-from more) h
 
-  pub down : (shown : List (List ℕ)) → above (last-shown s key None shown) c ≡ true → All (λ (paid : Payment). paid.counter < c) (accepted s key None shown)
+  pub down : (shown : List (List ℕ)) → above (last_shown s key None shown) c ≡ true → All (λ (paid : Payment). paid.counter < c) (accepted s key None shown)
   down shown h = (down-from shown None h).1
 
   -- and back
   abbrev Up : Option ℕ → List (List ℕ) → Type 0
-  Up last shown = above last c ≡ true → Below (accepted s key last shown) → above (last-shown s key last shown) c ≡ true
+  Up last shown = above last c ≡ true → Below (accepted s key last shown) → above (last_shown s key last shown) c ≡ true
 
   up_by : (last : Option ℕ) (v : Result Payment Refusal) (more : List (List ℕ)) → ((l : Option ℕ) → Up l more) →
-      above last c ≡ true → Below (payment_in v ++ accepted s key (last_after last v) more) → above (last-shown s key (last_after last v) more) c ≡ true
+      above last c ≡ true → Below (payment_in v ++ accepted s key (last_after last v) more) → above (last_shown s key (last_after last v) more) c ≡ true
   up_by last (Err e) more ih h q = ih last h q
   up_by last (Ok paid) more ih h q = ih (Some paid.counter) (lt-ltb paid.counter c q.0) q.1
 
@@ -62,5 +62,5 @@ module _ (s : Params) (sound : Sound s) (key : List ℕ) (c : ℕ) where
   up_from [] last h q = h
   up_from (bytes ∷ more) last h q = up_by last (verdict s key last bytes) more (up_from more) h q
 
-  pub up : (shown : List (List ℕ)) → All (λ (paid : Payment). paid.counter < c) (accepted s key None shown) → above (last-shown s key None shown) c ≡ true
+  pub up : (shown : List (List ℕ)) → All (λ (paid : Payment). paid.counter < c) (accepted s key None shown) → above (last_shown s key None shown) c ≡ true
   up shown q = up_from shown None refl q

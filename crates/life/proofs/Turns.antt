@@ -6,7 +6,7 @@ use Rattle.refusal.specs.declared.Refusal.{Refusal}
 use Rattle.refusal.specs.declared.Refusal.TheVariants.{AreaSize, Tries, CounterEnd}
 use Rattle.refusal.specs.Tests.{unless, first_hit}
 use Rattle.record.specs.Layout.{Content}
-use Rattle.plain.specs.Run.{Outcome, signed, nonces-ended, masks_ended, all_failed, Fate, passed, Attempt, Run, closed, passes}
+use Rattle.plain.specs.Run.{Outcome, signed, nonces_ended, masks_ended, all_failed, Fate, passed, Attempt, Run, closed, passes}
 use Rattle.plain.specs.Laws.{words_of, own_nonces, ComesFrom, Fates}
 use Rattle.plain.proofs.Accounting.{signing_accounts}
 use Rattle.card.specs.Sign.{tries_test, counter_test, counter_after}
@@ -71,7 +71,7 @@ module _ (made : MadeCard) (card : SoundCard made) where
   ended digest counter low (signed r) ts f own =
       let g = last-attempt digest (counter + 1) (omega arith) r ts f own in
       record { genuine = (g, tt); numbers = ap (λ (k : ℕ). k ∷ []) (counter-of digest (counter + 1) r g); counter-is = refl; most = omega arith }
-  ended digest counter low (nonces-ended x) ts f own = record { genuine = tt; numbers = refl; counter-is = omega arith; most = omega arith }
+  ended digest counter low (nonces_ended x) ts f own = record { genuine = tt; numbers = refl; counter-is = omega arith; most = omega arith }
   ended digest counter low (masks_ended x) ts f own = record { genuine = tt; numbers = refl; counter-is = omega arith; most = omega arith }
   ended digest counter low all_failed ts f own = record { genuine = tt; numbers = refl; counter-is = omega arith; most = omega arith }
 

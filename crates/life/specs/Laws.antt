@@ -20,7 +20,7 @@ use Rattle.till.specs.Verdict.{verdict}
 use Rattle.life.specs.declared.call.Call.{Call}
 use Rattle.life.specs.declared.call.Call.TheVariants.{Sign, Remask, Report}
 use Rattle.life.specs.Life.{Event, MadeCard, Answer, sign_refused, ran, remasked, reported, loaded, life, lived, records, Tried, attempts}
-use Rattle.life.specs.Shown.{last-shown, accepted}
+use Rattle.life.specs.Shown.{last_shown, accepted}
 
 -- a card that a load makes: a sound set, 1 to 8 shares, and polynomials of the set
 pub record SoundCard (made : MadeCard) : Type 0 where
@@ -47,7 +47,7 @@ payment_of r = record { counter = r.counter; digest = r.digest }
 
 -- what the card's till, begun with no last counter, answers to a record once it was shown these byte strings
 abbrev pub till_answer : MadeCard → (before : List (List ℕ)) → Content → Result Payment Refusal
-till_answer made before r = verdict made.set (till_key made) (last-shown made.set (till_key made) None before) (encode made.set r)
+till_answer made before r = verdict made.set (till_key made) (last_shown made.set (till_key made) None before) (encode made.set r)
 
 -- the record's counter is above every counter that the till accepted among them
 abbrev pub AboveAll : MadeCard → (before : List (List ℕ)) → Content → Type 0

@@ -6,7 +6,7 @@ use Rattle.refusal.specs.declared.Refusal.{Refusal}
 use Rattle.refusal.specs.declared.Refusal.TheVariants.{AreaSize}
 use Rattle.refusal.specs.Tests.{unless, first_hit}
 use Rattle.record.specs.Layout.{Content}
-use Rattle.plain.specs.Run.{Key, Outcome, signed, nonces-ended, masks-ended, all_failed, Attempt, Run, sign}
+use Rattle.plain.specs.Run.{Key, Outcome, signed, nonces_ended, masks_ended, all_failed, Attempt, Run, sign}
 use Rattle.keys.specs.Charge.{taken, charged}
 use Rattle.keys.specs.Remask.{remask_cost}
 use Rattle.card.specs.Sign.{tries_test, counter_test, counter_after}
@@ -65,18 +65,18 @@ module _ (made : MadeCard) where
   run_of c digest tries = sign made.set made.key made.shares digest c.counter tries c.nonces c.masks
 
   -- the mask words of a remask
-  abbrev pub remask-words : ℕ
-  remask-words = remask_cost made.set made.shares
+  abbrev pub remask_words : ℕ
+  remask_words = remask_cost made.set made.shares
 
   -- what each call answers, and what it leaves; a remask that comes short takes all the masks
   abbrev pub answer_to : CardState → Call → (fits : Bool) → Answer
   answer_to c (Sign digest tries) fits = sign_answer (first_hit (sign_tests c.counter tries fits)) (run_of c digest tries)
-  answer_to c Remask fits = remasked (cond fits (charged remask-words c.masks remask-words) (Err AreaSize))
+  answer_to c Remask fits = remasked (cond fits (charged remask_words c.masks remask_words) (Err AreaSize))
   answer_to c Report fits = reported c.counter made.shares
 
   abbrev pub after_call : CardState → Call → (fits : Bool) → CardState
   after_call c (Sign digest tries) fits = after_sign (first_hit (sign_tests c.counter tries fits)) c (run_of c digest tries)
-  after_call c Remask fits = record { counter = c.counter; nonces = c.nonces; masks = cond fits (taken remask-words c.masks) c.masks }
+  after_call c Remask fits = record { counter = c.counter; nonces = c.nonces; masks = cond fits (taken remask_words c.masks) c.masks }
   after_call c Report fits = c
 
   abbrev pub answer : CardState → Event → Answer
@@ -101,8 +101,8 @@ loaded n f = record { counter = 0; nonces = n; masks = f }
 -- the record of an answer, and those of a life in their order
 abbrev pub record_in : Outcome → List Content
 record_in (signed r) = r ∷ []
-record_in (nonces-ended f) = []
-record_in (masks-ended f) = []
+record_in (nonces_ended f) = []
+record_in (masks_ended f) = []
 record_in all_failed = []
 
 abbrev pub record_of : Answer → List Content

@@ -13,9 +13,9 @@ payment_in (Err e) = []
 -- by a till for this set and key area
 module _ (s : Params) (key : List ℕ) where
   -- the last counter that it then holds
-  abbrev pub last-shown : (last : Option ℕ) → List (List ℕ) → Option ℕ
-  last-shown last [] = last
-  last-shown last (bytes ∷ more) = last-shown (last_after last (verdict s key last bytes)) more
+  abbrev pub last_shown : (last : Option ℕ) → List (List ℕ) → Option ℕ
+  last_shown last [] = last
+  last_shown last (bytes ∷ more) = last_shown (last_after last (verdict s key last bytes)) more
 
   -- the payments that it accepted
   abbrev pub accepted : (last : Option ℕ) → List (List ℕ) → List Payment

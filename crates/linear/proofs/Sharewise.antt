@@ -75,8 +75,8 @@ spread_top_linear = record {
 }
 
 -- the top bit of a word is its bit 31
-pub top-is : (x : ℕ) → x < 2 ^ 32 → (2 ^ 32 - x / 2 ^ 31) % 2 ^ 32 ≡ spread (x / 2 ^ 31)
-top-is x h = ap (λ (b : ℕ). (2 ^ 32 - b) % 2 ^ 32) {x = x / 2 ^ 31} {y = x / 2 ^ 31 % 2} (omega arith)
+pub top_is : (x : ℕ) → x < 2 ^ 32 → (2 ^ 32 - x / 2 ^ 31) % 2 ^ 32 ≡ spread (x / 2 ^ 31)
+top_is x h = ap (λ (b : ℕ). (2 ^ 32 - b) % 2 ^ 32) {x = x / 2 ^ 31} {y = x / 2 ^ 31 % 2} (omega arith)
 
 -- a complement, and a word that is no secret
 pub not_is : (w a : ℕ) → a < 2 ^ w → (2 ^ w - 1) - a ≡ bit_xor a (2 ^ w - 1)

@@ -6,7 +6,7 @@ use Rattle.std.proofs.lemmas.List.{append-nil, length_push, map_push}
 use Rattle.std.proofs.lemmas.Bool.{leb-true, leb-false, ltb-true, ltb-false}
 use Rattle.params.specs.Params.{Params}
 use Rattle.plain.specs.Nonces.{limit, whole, candidate, candidates, coefficient, nonces}
-use Rattle.plain.specs.Run.{Setting, Run, Outcome, signed, nonces-ended, masks_ended, all_failed, Attempt, rejected, closed, run, setting, sign}
+use Rattle.plain.specs.Run.{Setting, Run, Outcome, signed, nonces_ended, masks_ended, all_failed, Attempt, rejected, closed, run, setting, sign}
 use Rattle.plain.specs.Laws.{words_of, own_nonces, ComesFrom, Rejected, Fates, NamesLast, SigningAccounts}
 use Rattle.plain.proofs.Groups.{flat, Sized, flat_push, candidates_flat, whole-sized, cut-few, whole-and-cut}
 use Rattle.plain.proofs.Runs.{Kept, run_keeps, with-one, made_of, Accepted, Wanting}
@@ -195,13 +195,13 @@ after_one o t (u ∷ more) q f = (q, f)
 -- the last attempt's number, where attempt a was the first of these and could be followed by so many
 abbrev Numbers : (more a : ℕ) → Outcome → ℕ → Type 0
 Numbers more a (signed r) attempts = Unit {0}
-Numbers more a (nonces-ended f) attempts = f.attempt + 1 ≡ a + attempts
+Numbers more a (nonces_ended f) attempts = f.attempt + 1 ≡ a + attempts
 Numbers more a (masks_ended f) attempts = f.attempt + 1 ≡ a + attempts
 Numbers more a all_failed attempts = attempts ≡ more + 1
 
 one_later : (more a : ℕ) (o : Outcome) (k : ℕ) → 0 < more → Numbers (more - 1) (a + 1) o k → Numbers more a o (suc k)
 one_later more a (signed r) k some h = tt
-one_later more a (nonces-ended f) k some h = omega arith
+one_later more a (nonces_ended f) k some h = omega arith
 one_later more a (masks_ended f) k some h = omega arith
 one_later more a all_failed k some h = omega arith
 
@@ -237,7 +237,7 @@ begins {e = e} = record {
 
 names : (tries : ℕ) (o : Outcome) (k : ℕ) → 0 < tries → Numbers (tries - 1) 1 o k → NamesLast tries o k
 names tries (signed r) k some h = tt
-names tries (nonces-ended f) k some h = omega arith
+names tries (nonces_ended f) k some h = omega arith
 names tries (masks_ended f) k some h = omega arith
 names tries all_failed k some h = omega arith
 

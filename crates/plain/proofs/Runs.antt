@@ -5,7 +5,7 @@ use Rattle.refusal.specs.declared.fault.Step.{Step}
 use Rattle.refusal.specs.declared.fault.Step.TheVariants.{Candidate, Conversion, Commit, Check, Open}
 use Rattle.record.specs.Layout.{Content}
 use Rattle.plain.specs.Nonces.{limit, candidate, coefficient}
-use Rattle.plain.specs.Run.{Setting, Run, signed, nonces-ended, all_failed, passed, rejected, unfinished, at, stop, charge, choose, consider, finish, after_rejected, closed, passes, run}
+use Rattle.plain.specs.Run.{Setting, Run, signed, nonces_ended, all_failed, passed, rejected, unfinished, at, stop, charge, choose, consider, finish, after_rejected, closed, passes, run}
 use Rattle.plain.proofs.Groups.{flat}
 use Rattle.plain.proofs.Paths.{price, short-at}
 
@@ -74,7 +74,7 @@ Claim = (more a : ℕ) (ws y : List ℕ) (seen : ℕ) (gs : List (List ℕ)) →
 -- the ways of a run keep the claim P
 pub record Kept (e : Setting) (P : Claim) : Type 0 where
   pub ended : (more a : ℕ) (ws y : List ℕ) (seen spent : ℕ) → spent ≤ e.mask_count →
-      P more a ws y seen [] (stop e (nonces-ended (record { mark = e.nonce_mark; attempt = a; step = Candidate (at e.set (length y)) })) (ws ++ e.cut) unfinished seen (length e.cut) spent [])
+      P more a ws y seen [] (stop e (nonces_ended (record { mark = e.nonce_mark; attempt = a; step = Candidate (at e.set (length y)) })) (ws ++ e.cut) unfinished seen (length e.cut) spent [])
   pub short : (more a : ℕ) (ws y : List ℕ) (seen : ℕ) (step : Step) (g : List ℕ) (gs : List (List ℕ)) →
       P more a ws y seen (g ∷ gs) (short-at e step a (ws ++ g) (seen + 1) (rest_of e gs))
   pub refused : (more a : ℕ) (ws y : List ℕ) (seen : ℕ) (g : List ℕ) (gs : List (List ℕ)) (r : Run) → Accepted e g false →

@@ -8,7 +8,7 @@ use Rattle.refusal.specs.declared.fault.Step.{Step}
 use Rattle.refusal.specs.declared.fault.Step.TheVariants.{Candidate, Conversion, Commit, Check, Open}
 use Rattle.record.specs.Layout.{Content}
 use Rattle.plain.specs.Nonces.{limit, whole, cut_short, candidate, candidates, coefficient}
-use Rattle.plain.specs.Run.{Key, Setting, Run, signed, nonces-ended, at, charge, choose, consider, finish, closed, passes, run, setting, sign}
+use Rattle.plain.specs.Run.{Key, Setting, Run, signed, nonces_ended, at, charge, choose, consider, finish, closed, passes, run, setting, sign}
 use Rattle.plain.specs.Laws.{short_of_masks, Agree, SigningsAlike}
 use Rattle.plain.proofs.Groups.{flat, Sized, candidates_flat, candidates_none, whole-sized, cut-few}
 use Rattle.plain.proofs.Paths.{price, short-at}
@@ -72,7 +72,7 @@ module _ (s : Params) (key : Key) (m m' : ℕ) (some : 0 < m) (some' : 0 < m') w
     runs-alike : (gs gs' : List (List ℕ)) → Sized m gs → Sized m' gs' → map (candidate s) gs ≡ map (candidate s) gs' →
         (more a : ℕ) (ws ws' y y' : List ℕ) → y ≡ y' → (seen spent spent' : ℕ) → Alike (run one more a ws y seen spent gs) (run other more a ws' y' seen spent' gs')
     runs-alike [] [] z z' e more a ws ws' y y' ey seen spent spent' = λ h h'. record {
-      outcome = ap₂ (λ (k : Mark) (i : ℕ). nonces-ended (record { mark = k; attempt = a; step = Candidate (at s i) })) same-mark (ap length ey);
+      outcome = ap₂ (λ (k : Mark) (i : ℕ). nonces_ended (record { mark = k; attempt = a; step = Candidate (at s i) })) same-mark (ap length ey);
       attempts = refl;
       seen = refl;
       left = candidates_none s m some ∙ sym (candidates_none s m' some');

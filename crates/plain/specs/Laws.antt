@@ -6,7 +6,7 @@ use Rattle.params.specs.Params.{Params, Sound}
 use Rattle.words.specs.Flow.{Flow}
 use Rattle.record.specs.Layout.{Content}
 use Rattle.plain.specs.Nonces.{limit, bits, LeastBits, candidates, nonces}
-use Rattle.plain.specs.Run.{Key, Outcome, signed, nonces-ended, masks-ended, all_failed, Fate, passed, rejected, unfinished, Attempt, Run, closed, passes, sign}
+use Rattle.plain.specs.Run.{Key, Outcome, signed, nonces_ended, masks_ended, all_failed, Fate, passed, rejected, unfinished, Attempt, Run, closed, passes, sign}
 
 -- a candidate has as few bits as can hold the limit
 abbrev pub CandidateBits : Type 0
@@ -33,8 +33,8 @@ Rejected t = (r : Content) × (t.fate ≡ rejected r)
 -- what the last attempt came to, by how the signing ends
 abbrev pub Ends : Outcome → Attempt → Type 0
 Ends (signed r) t = t.fate ≡ passed r
-Ends (nonces-ended f) t = t.fate ≡ unfinished
-Ends (masks-ended f) t = t.fate ≡ unfinished
+Ends (nonces_ended f) t = t.fate ≡ unfinished
+Ends (masks_ended f) t = t.fate ≡ unfinished
 Ends all_failed t = Rejected t
 
 -- there is a last attempt, and every one before it was rejected
@@ -46,8 +46,8 @@ Fates o (t ∷ u ∷ more) = Rejected t × Fates o (u ∷ more)
 -- the attempt that a fault names is the last; where every try failed, there were as many attempts as tries
 abbrev pub NamesLast : (tries : ℕ) → Outcome → (attempts : ℕ) → Type 0
 NamesLast tries (signed r) attempts = Unit {0}
-NamesLast tries (nonces-ended f) attempts = f.attempt ≡ attempts
-NamesLast tries (masks-ended f) attempts = f.attempt ≡ attempts
+NamesLast tries (nonces_ended f) attempts = f.attempt ≡ attempts
+NamesLast tries (masks_ended f) attempts = f.attempt ≡ attempts
 NamesLast tries all_failed attempts = attempts ≡ tries
 
 -- the accounts of a signing of m shares
@@ -69,8 +69,8 @@ SigningAccounts =
 -- a signing that ended for want of masks
 abbrev pub short_of_masks : Outcome → Bool
 short_of_masks (signed r) = false
-short_of_masks (nonces-ended f) = false
-short_of_masks (masks-ended f) = true
+short_of_masks (nonces_ended f) = false
+short_of_masks (masks_ended f) = true
 short_of_masks all_failed = false
 
 -- a signing of m shares and one of m' shares end alike, in as many attempts and whole candidates, and leave the same candidates

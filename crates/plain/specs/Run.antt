@@ -43,7 +43,7 @@ passes s r = all_near s r.z
 -- how a signing ends
 pub data Outcome : Type 0 where
   signed : Content → Outcome
-  nonces-ended masks-ended : Fault → Outcome
+  nonces_ended masks_ended : Fault → Outcome
   all_failed : Outcome
 
 -- what became of an attempt
@@ -103,7 +103,7 @@ module _ (e : Setting) where
   charge step a ws seen left spent next =
       cond (nat_le (spent + cost e.set e.shares step) e.mask_count)
       (next (spent + cost e.set e.shares step))
-      (stop (masks-ended (record { mark = e.mask_mark; attempt = a; step = step })) ws unfinished seen 0 e.mask_count left)
+      (stop (masks_ended (record { mark = e.mask_mark; attempt = a; step = step })) ws unfinished seen 0 e.mask_count left)
 
   -- steps 1 and 2: the candidate x for the i-th coefficient is refused, or accepted and converted
   unfoldable pub consider : (a i : ℕ) (ws : List ℕ) (seen : ℕ) (left : List ℕ) (x spent : ℕ) → (refuse accept : ℕ → Run) → Run
@@ -123,7 +123,7 @@ module _ (e : Setting) where
   -- attempt a, with so many more to follow, has drawn ws and made the nonces y of them; the whole groups of words still to come
   abbrev pub run : (more a : ℕ) (ws y : List ℕ) (seen spent : ℕ) → List (List ℕ) → Run
   run more a ws y seen spent [] =
-      stop (nonces-ended (record { mark = e.nonce_mark; attempt = a; step = Candidate (at e.set (length y)) })) (ws ++ e.cut) unfinished seen (length e.cut) spent []
+      stop (nonces_ended (record { mark = e.nonce_mark; attempt = a; step = Candidate (at e.set (length y)) })) (ws ++ e.cut) unfinished seen (length e.cut) spent []
   run more a ws y seen spent (g ∷ gs) =
       let y' = y ++ coefficient e.set (candidate e.set g) ∷ [] in
       let left = flat_map (λ (h : List ℕ). h) gs ++ e.cut in

@@ -10,10 +10,10 @@ use Rattle.params.proofs.Facts.{n_quarters}
 use Rattle.params.specs.Params.{Params, Sound, reach}
 use Rattle.refusal.specs.declared.Refusal.TheVariants.{RecordSize, Kind, OutOfReach, UnusedCode}
 use Rattle.record.proofs.Hits.{passes}
-use Rattle.record.specs.Layout.{Content, size, kind, num2, num4, z_bytes, z_of, code_of, coefficient, packed, unpacked, digest_part, z_part, c-part, encode, decode}
+use Rattle.record.specs.Layout.{Content, size, kind, num2, num4, z_bytes, z_of, code_of, coefficient, packed, unpacked, digest_part, z_part, c_part, encode, decode}
 use Rattle.refusal.specs.Tests.{at_index, first_hit, unless}
 use Rattle.record.specs.Reading.{far, size_test, kind_test, reach_test, code_test, record_tests}
-use Rattle.search.specs.First.{first_from, first-at}
+use Rattle.search.specs.First.{first_from, first_at}
 use Rattle.record.specs.Writing.{Proper, Ternary, content_of}
 
 -- a number from its bytes
@@ -114,11 +114,11 @@ read_back s sound r small ld lz lc proper =
     let lzb : length (z_bytes r.z) ≡ 4 * n = length_z_bytes r.z ∙ omega arith in
     let behind : drop 40 bytes ≡ tail = sym (drop-drop 32 8 bytes) ∙ drop_at r.digest tail 32 ld in
     let zp : z_part s bytes ≡ z_bytes r.z = ap (take (4 * n)) behind ∙ take_at (z_bytes r.z) (packed codes) (4 * n) lzb in
-    let cp : c-part s bytes ≡ packed codes = sym (drop-drop (4 * n) 40 bytes) ∙ ap (drop (4 * n)) behind ∙ drop_at (z_bytes r.z) (packed codes) (4 * n) lzb in
+    let cp : c_part s bytes ≡ packed codes = sym (drop-drop (4 * n) 40 bytes) ∙ ap (drop (4 * n)) behind ∙ drop_at (z_bytes r.z) (packed codes) (4 * n) lzb in
     let all_coded : All (Coded s.p) r.c = All-weaker (Ternary s) (Coded s.p) (coded s (omega (arith, sound.k_below_p, sound.alpha_below_k, sound.alpha_some))) r.c proper.ternary in
     let z_of-part : z_of (z_part s bytes) ≡ r.z =
     ap z_of zp ∙ z_back r.z (All-weaker (λ z. nat_abs z ≤ reach s) (SFits w16) (λ z. near_fits z (reach s) sound.reach_small) r.z proper.near) in
-    let codes-of-part : unpacked (c-part s bytes) ≡ codes =
+    let codes-of-part : unpacked (c_part s bytes) ≡ codes =
     ap unpacked cp ∙ codes_back codes (n / 4) (omega (arith, length-map r.c code_of, n_quarters s sound)) (All-map (λ v. v < 4) code_of r.c (All-weaker (Coded s.p) (λ v. code_of v < 4) (λ v h. h.fits) r.c all_coded)) in
     let whole : length bytes ≡ size s =
     omega (arith, length-append r.digest tail, length-append (z_bytes r.z) (packed codes), length_packed codes, length-map r.c code_of) in
@@ -126,11 +126,11 @@ read_back s sound r small ld lz lc proper =
     ap (λ (b : Bool). unless b RecordSize) (and_from _ _ (eq-eqb (length bytes) (size s) whole) (eq-eqb (num4 bytes 0) (size s - 4) (four_bytes (size s - 4) (omega (arith, sound.n_most))))) in
     let passes-kind : kind_test s bytes ≡ None = ap (λ (b : Bool). unless b Kind) (eq-eqb (num2 bytes 4) (kind s) (two_bytes (kind s) (omega (arith, sound.number_byte)))) in
     let passes-reach : reach_test s bytes ≡ None =
-    ap (at_index OutOfReach) (ap (first-at (far s)) z_of-part
+    ap (at_index OutOfReach) (ap (first_at (far s)) z_of-part
     ∙ none_found (far s) 0 r.z (All-weaker (λ z. nat_abs z ≤ reach s) (λ z. far s z ≡ false) (λ z. le-ltb (reach s) (nat_abs z)) r.z proper.near)) in
     let unused : ℕ → Bool = λ (code : ℕ). eqb code 2 in
     let passes-code : code_test s bytes ≡ None =
-    ap (at_index UnusedCode) (ap (first-at unused) codes-of-part
+    ap (at_index UnusedCode) (ap (first_at unused) codes-of-part
     ∙ none_found unused 0 codes (All-map (λ code. unused code ≡ false) code_of r.c (All-weaker (Coded s.p) (λ v. unused (code_of v) ≡ false) (λ v h. h.used) r.c all_coded))) in (
       passes (size_test s bytes) _ passes-size ∙ passes (kind_test s bytes) _ passes-kind ∙ passes (reach_test s bytes) _ passes-reach ∙ passes (code_test s bytes) _ passes-code,
       same_content r _ _ _ _ (two_bytes r.counter small) (take_at r.digest tail 32 ld) z_of-part (ap (map (coefficient s.p)) codes-of-part ∙ residues_back s.p r.c all_coded),

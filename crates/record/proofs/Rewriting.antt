@@ -4,8 +4,8 @@ use mir.Facts.{of_z-to_z}
 use Rattle.std.proofs.lemmas.List.{take-append-drop, drop-drop, length-take-le, length-drop, get_or-take, get_or-drop}
 use Rattle.std.proofs.lemmas.Bool.{cond-true, cond-false, cases_Bool, cases_eq, eqb-true, eqb-false, eq-eqb, ne_eqb, lt-ltb, le-ltb}
 use Rattle.params.specs.Params.{Params}
-use Rattle.record.specs.Layout.{Content, size, kind, le2, le4, num2, num4, z_bytes, z_of, code_of, coefficient, packed, unpacked, digest_part, z_part, c-part, encode, decode}
-use Rattle.search.specs.First.{first_from, first-at}
+use Rattle.record.specs.Layout.{Content, size, kind, le2, le4, num2, num4, z_bytes, z_of, code_of, coefficient, packed, unpacked, digest_part, z_part, c_part, encode, decode}
+use Rattle.search.specs.First.{first_from, first_at}
 use Rattle.record.proofs.Bytes.{Bytes, le2_of, le2_at, le4_at}
 
 bytes_take : (k : ℕ) (bs : List ℕ) → Bytes bs → Bytes (take k bs)
@@ -76,10 +76,10 @@ c_again p i (byte ∷ bs) h b e =
 
 -- a record's bytes from its fields
 pub written_again : (s : Params) (bytes : List ℕ) → 2 < s.p → s.n % 4 ≡ 0 → Bytes bytes → length bytes ≡ size s → num4 bytes 0 ≡ size s - 4 → num2 bytes 4 ≡ kind s
-    → first-at (λ code. eqb code 2) (unpacked (c-part s bytes)) ≡ None → encode s (decode s bytes) ≡ bytes
+    → first_at (λ code. eqb code 2) (unpacked (c_part s bytes)) ≡ None → encode s (decode s bytes) ≡ bytes
 written_again s bytes h q b l len kin none =
     let z = z_part s bytes in
-    let c = c-part s bytes in
+    let c = c_part s bytes in
     let n = s.n in
     let long : length (drop 40 bytes) ≡ length bytes - 40 = length-drop 40 bytes in
     let lz : length z ≡ 2 * (2 * n) = length-take-le (4 * n) (drop 40 bytes) (omega arith) ∙ omega arith in

@@ -74,8 +74,8 @@ digest_part bytes = take 32 (drop 8 bytes)
 abbrev pub z_part : Params → List ℕ → List ℕ
 z_part s bytes = take (4 * s.n) (drop 40 bytes)
 
-abbrev pub c-part : Params → List ℕ → List ℕ
-c-part s bytes = drop (40 + 4 * s.n) bytes
+abbrev pub c_part : Params → List ℕ → List ℕ
+c_part s bytes = drop (40 + 4 * s.n) bytes
 
 -- a record as bytes, and what bytes say
 abbrev pub encode : Params → Content → List ℕ
@@ -86,5 +86,5 @@ decode s bytes = record {
   counter = num2 bytes 6;
   digest = digest_part bytes;
   z = z_of (z_part s bytes);
-  c = map (coefficient s.p) (unpacked (c-part s bytes));
+  c = map (coefficient s.p) (unpacked (c_part s bytes));
 }

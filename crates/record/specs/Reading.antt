@@ -5,8 +5,8 @@ use Rattle.params.specs.Params.{Params, reach}
 use Rattle.refusal.specs.declared.Refusal.{Refusal}
 use Rattle.refusal.specs.declared.Refusal.TheVariants.{RecordSize, Kind, OutOfReach, UnusedCode}
 use Rattle.record.specs.declared.view.Record.{Record}
-use Rattle.record.specs.Layout.{size, kind, num2, num4, digest_part, z_part, c-part, z_of, unpacked, encode, decode}
-use Rattle.search.specs.First.{first-at}
+use Rattle.record.specs.Layout.{size, kind, num2, num4, digest_part, z_part, c_part, z_of, unpacked, encode, decode}
+use Rattle.search.specs.First.{first_at}
 use Rattle.refusal.specs.Tests.{unless, at_index, first_hit}
 
 -- an integer further from 0 than a signature's coefficient may lie
@@ -26,10 +26,10 @@ abbrev pub kind_test : Params → List ℕ → Option Refusal
 kind_test s bytes = unless (num2 bytes 4 == kind s) Kind
 
 abbrev pub reach_test : Params → List ℕ → Option Refusal
-reach_test s bytes = at_index OutOfReach (first-at (far s) (z_of (z_part s bytes)))
+reach_test s bytes = at_index OutOfReach (first_at (far s) (z_of (z_part s bytes)))
 
 abbrev pub code_test : Params → List ℕ → Option Refusal
-code_test s bytes = at_index UnusedCode (first-at (λ code. nat_eq code 2) (unpacked (c-part s bytes)))
+code_test s bytes = at_index UnusedCode (first_at (λ code. nat_eq code 2) (unpacked (c_part s bytes)))
 
 -- in their order
 abbrev pub record_tests : Params → List ℕ → List (Option Refusal)
@@ -47,6 +47,6 @@ Reads s bytes (Ok r) =
     × (r.counter ≡ num2 bytes 6)
     × (r.digest.now ≡ digest_part bytes)
     × (r.z.now ≡ z_part s bytes)
-    × (r.challenge.now ≡ c-part s bytes)
+    × (r.challenge.now ≡ c_part s bytes)
     × (encode s (decode s bytes) ≡ bytes)
 Reads s bytes (Err e) = first_hit (record_tests s bytes) ≡ Some e

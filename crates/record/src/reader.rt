@@ -2,7 +2,7 @@
 ghost use Rattle.params.specs.Params.{reach};
 ghost use Rattle.record.specs.Layout.{num2, num4, size, unpacked, z_of};
 ghost use Rattle.record.specs.Reading.{Opens, Reads, far};
-ghost use Rattle.search.specs.First.{first-at};
+ghost use Rattle.search.specs.First.{first_at};
 ghost use Rattle.std.specs.Prelude.{◌≡◌, ℕ, ◌+◌, ◌*◌, ◌/◌, ◌%◌, ◌^◌, ◌<◌, ◌≤◌, length, take, drop, Some, None, MatchOption, ◌==◌, nat_eq};
 ghost use Rattle.std.specs.Int.{w16};
 ghost use Rattle.std.proofs.Common.{to_z};
@@ -41,7 +41,7 @@ fn is_far<S: ParamSet>(low: u8, high: u8) -> bool
 
 // The first coefficient of z that lies too far from 0.
 fn first_far<S: ParamSet>(z: &[u8]) -> Option<usize>
-    ensures { result ≡ first-at (far S.params) (z_of z.now) }
+    ensures { result ≡ first_at (far S.params) (z_of z.now) }
 {
     'coefficients: for i in 0..z.len() / 2 {
         if is_far::<S>(z[2 * i], z[2 * i + 1]) {
@@ -62,7 +62,7 @@ fn is_unused(byte: u8, place: usize) -> bool
 // The first code of the challenge that means nothing.
 fn first_unused(challenge: &[u8]) -> Option<usize>
     requires { length challenge.now ≤ 2 ^ 40 }
-    ensures { result ≡ first-at (λ code. nat_eq code 2) (unpacked challenge.now) }
+    ensures { result ≡ first_at (λ code. nat_eq code 2) (unpacked challenge.now) }
 {
     'codes: for i in 0..4 * challenge.len() {
         if is_unused(challenge[i / 4], i % 4) {

@@ -33,9 +33,9 @@ last_from : (x : ℕ) (xs : List ℕ) → get_or (x ∷ xs) (length xs) 0 ≡ la
 last_from x [] = refl
 last_from x (y ∷ ys) = last_from y ys
 
-pub last-is : (xs : List ℕ) → 0 < length xs → get_or xs (length xs - 1) 0 ≡ last_of 0 xs
-last-is [] h = absurd (omega arith)
-last-is (x ∷ xs) h =
+pub last_is : (xs : List ℕ) → 0 < length xs → get_or xs (length xs - 1) 0 ≡ last_of 0 xs
+last_is [] h = absurd (omega arith)
+last_is (x ∷ xs) h =
     let e : suc (length xs) - 1 ≡ length xs = omega arith in
     ap (λ (t : ℕ). get_or (x ∷ xs) t 0) e ∙ last_from x xs
 

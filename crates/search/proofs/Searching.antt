@@ -2,7 +2,7 @@
 use Rattle.std.proofs.Common.{◌≡◌, ℕ, zero, suc, ◌+◌, ◌<◌, ◌≤◌, Bool, true, false, List, [], ◌∷◌, ◌++◌, length, get_or, drop, Some, None, sym, refl, ap, ◌∙◌, subst, ⊎_elim, arith}
 use Rattle.std.proofs.lemmas.List.{at_drop_more, at_drop_all, append-nil, append_assoc, length-append, get_or_append_left, get_or_at}
 use Rattle.std.proofs.lemmas.Bool.{cond_both, cond-true, cond-false, cases_lt}
-use Rattle.search.specs.First.{first_from, first-at, First}
+use Rattle.search.specs.First.{first_from, first_at, First}
 
 module _ {A : Type 0} (d : A) (test : A → Bool) where
   -- a loop over the places: the test holds at i, it fails at i, no place is left
@@ -41,10 +41,10 @@ module _ {A : Type 0} (d : A) (test : A → Bool) where
       (first-behind (fs ++ x ∷ []) xs (fails-push fs x none e))))
 
   -- the definition meets the law
-  pub first-is : (xs : List A) → First d test xs (first-at test xs)
+  pub first-is : (xs : List A) → First d test xs (first_at test xs)
   first-is xs = first-behind [] xs (λ k h. absurd (omega arith))
 
-  pub none_hits : (xs : List A) → first-at test xs ≡ None → (k : ℕ) → k < length xs → test (get_or xs k d) ≡ false
+  pub none_hits : (xs : List A) → first_at test xs ≡ None → (k : ℕ) → k < length xs → test (get_or xs k d) ≡ false
   none_hits xs e = subst (First d test xs) e (first-is xs)
 
   none_from : (i : ℕ) (xs : List A) → Fails xs → first_from test i xs ≡ None
@@ -52,5 +52,5 @@ module _ {A : Type 0} (d : A) (test : A → Bool) where
   none_from i (x ∷ xs) none =
       cond-false (test x) (Some i) (first_from test (i + 1) xs) (none zero (omega arith)) ∙ none_from (i + 1) xs (λ k h. none (suc k) (omega arith))
 
-  pub all-miss : (xs : List A) → ((k : ℕ) → k < length xs → test (get_or xs k d) ≡ false) → first-at test xs ≡ None
+  pub all-miss : (xs : List A) → ((k : ℕ) → k < length xs → test (get_or xs k d) ≡ false) → first_at test xs ≡ None
   all-miss = none_from 0

@@ -7,8 +7,8 @@ first_from test i [] = None
 first_from test i (x ∷ xs) = cond (test x) (Some i) (first_from test (i + 1) xs)
 
 -- the lowest index at which the test holds
-abbrev pub first-at : {A : Type 0} → (A → Bool) → List A → Option ℕ
-first-at test xs = first_from test 0 xs
+abbrev pub first_at : {A : Type 0} → (A → Bool) → List A → Option ℕ
+first_at test xs = first_from test 0 xs
 
 -- r tells the first place: none, and the test fails at each; or i, and it holds at i and at no place before
 abbrev pub First : {A : Type 0} → A → (A → Bool) → List A → Option ℕ → Type 0

@@ -1,7 +1,7 @@
 // The first place at which a test holds.
 #![tactic(auto)]
 
-ghost use Rattle.search.specs.First.{First, first-at};
+ghost use Rattle.search.specs.First.{First, first_at};
 ghost use Rattle.std.specs.Prelude.{◌≡◌, leb, nat_le};
 
 fn at_least(word: u32, limit: u32) -> bool
@@ -12,7 +12,7 @@ fn at_least(word: u32, limit: u32) -> bool
 
 // The lowest index of a word that is `limit` or more.
 pub fn first_at_least(words: &[u32], limit: u32) -> Option<usize>
-    ensures value { result ≡ first-at (leb limit) words.now }
+    ensures value { result ≡ first_at (leb limit) words.now }
     ensures first { First 0 (leb limit) words.now result }
 {
     'words: for i in 0..words.len() {

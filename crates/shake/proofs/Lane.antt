@@ -7,8 +7,8 @@ use Rattle.std.proofs.lemmas.List.{set-get_or, set-set, get_or-set_same, drop_mo
 use Rattle.shake.specs.Sponge.{xor_byte, xor_bytes}
 
 -- a byte and what stands above it
-byte-and-rest : (b n j : ℕ) → b < 256 → bit_xor (b * 2 ^ (8 * j)) (n * 2 ^ (8 * (j + 1))) ≡ (b + 256 * n) * 2 ^ (8 * j)
-byte-and-rest b n j h =
+byte_and_rest : (b n j : ℕ) → b < 256 → bit_xor (b * 2 ^ (8 * j)) (n * 2 ^ (8 * (j + 1))) ≡ (b + 256 * n) * 2 ^ (8 * j)
+byte_and_rest b n j h =
     let p : ℕ = 2 ^ (8 * j) in
     let e : 8 * (j + 1) ≡ 8 + 8 * j = omega arith in
     let q : 2 ^ (8 * (j + 1)) ≡ 256 * p = ap (λ (k : ℕ). 2 ^ k) e ∙ pow-add 2 8 (8 * j) in
@@ -42,7 +42,7 @@ bytes_in_lane s q v j (b ∷ bs) l h a =
     let first = one_byte s q v j b l lt in
     let more = bytes_in_lane s q u (j + 1) bs l le a.1 in
     let both = xor_assoc v (b * 2 ^ (8 * j)) (n * 2 ^ (8 * (j + 1))) in
-    let one = byte-and-rest b n j a.0 in
+    let one = byte_and_rest b n j a.0 in
     cc
 
 number_at : (xs : List ℕ) (i : ℕ) → i < length xs → number_l 256 (drop i xs) ≡ get_or xs i 0 + 256 * number_l 256 (drop (i + 1) xs)

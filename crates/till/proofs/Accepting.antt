@@ -7,7 +7,7 @@ use Rattle.std.specs.Str.{bytes_eq}
 use Rattle.params.proofs.Facts.{n_quarters}
 use Rattle.params.specs.Params.{Params, Sound, reach}
 use Rattle.record.proofs.Fields.{length_z, length_unpacked}
-use Rattle.record.specs.Layout.{size, kind, num2, num4, digest_part, z_part, c-part, z_of, unpacked, decode}
+use Rattle.record.specs.Layout.{size, kind, num2, num4, digest_part, z_part, c_part, z_of, unpacked, decode}
 use Rattle.refusal.specs.Tests.{unless, at_index, first_hit}
 use Rattle.record.specs.Reading.{far, kind_test, reach_test, code_test, record_tests}
 use Rattle.record.specs.Reading as reading
@@ -16,7 +16,7 @@ use Rattle.refusal.specs.declared.Refusal.{Refusal}
 use Rattle.refusal.specs.declared.Refusal.TheVariants.{AreaSize, NotResidue, RecordSize, Kind, OutOfReach, UnusedCode, OtherChallenge, Stale}
 use Rattle.refusal.specs.declared.Area.TheVariants.{Public}
 use Rattle.search.proofs.Searching.{none_hits, all-miss}
-use Rattle.search.specs.First.{first-at}
+use Rattle.search.specs.First.{first_at}
 use Rattle.till.proofs.Hits.{hit_first, hit_later, none_first, none_later, both_pass, passed_true, true_passes, no_index}
 use Rattle.till.specs.Verdict.{Accepts, above, answer, challenge_test, last_after, counter_test, payment, size_test, tests, verdict, word_test}
 use Rattle.till.specs.Verification.{PublicKey, Verifies, content, expected}
@@ -28,8 +28,8 @@ module _ (s : Params) (sound : Sound s) (bytes : List ℕ) (sized : length bytes
       let l : length (z_part s bytes) ≡ 4 * s.n = length-take-le (4 * s.n) (drop 40 bytes) (omega (arith, length-drop 40 bytes)) in
       length_z (z_part s bytes) ∙ omega (arith, l)
 
-  length-codes : length (unpacked (c-part s bytes)) ≡ s.n
-  length-codes = length_unpacked (c-part s bytes) ∙ omega (arith, length-drop (40 + 4 * s.n) bytes, n_quarters s sound)
+  length-codes : length (unpacked (c_part s bytes)) ≡ s.n
+  length-codes = length_unpacked (c_part s bytes) ∙ omega (arith, length-drop (40 + 4 * s.n) bytes, n_quarters s sound)
 
 abbrev unused : ℕ → Bool
 unused code = eqb code 2
@@ -58,7 +58,7 @@ module _ (s : Params) (sound : Sound s) (key : List ℕ) (last : Option ℕ) (by
       let long : length bytes ≡ size s = eqb-true _ _ fields.0 in
       let words = none_hits 0 (leb s.p) key (no_index (NotResidue Public) _ t1) in
       let near = none_hits (pos 0) (far s) (z_of (z_part s bytes)) (no_index OutOfReach _ t4) in
-      let codes = none_hits 0 unused (unpacked (c-part s bytes)) (no_index UnusedCode _ t5) in (
+      let codes = none_hits 0 unused (unpacked (c_part s bytes)) (no_index UnusedCode _ t5) in (
         record { sized = eqb-true _ _ (passed_true _ AreaSize t0); residues = λ k l. leb-false _ _ (words k l) },
         record {
           sized = long;
@@ -79,7 +79,7 @@ module _ (s : Params) (sound : Sound s) (key : List ℕ) (last : Option ℕ) (by
       (both_pass (reading.size_test s bytes) _ (true_passes _ RecordSize (and_from _ _ (eq-eqb _ _ long) (eq-eqb _ _ v.length_field)))
       (both_pass (kind_test s bytes) _ (true_passes _ Kind (eq-eqb _ _ v.kind_field))
       (both_pass (reach_test s bytes) _ (ap (at_index OutOfReach) (all-miss (pos 0) (far s) (z_of (z_part s bytes)) (λ i l. le-ltb _ _ (v.near i (omega (arith, length-zs s sound bytes long))))))
-      (both_pass (code_test s bytes) _ (ap (at_index UnusedCode) (all-miss 0 unused (unpacked (c-part s bytes)) (λ i l. ne_eqb _ 2 (v.coded i (omega (arith, length-codes s sound bytes long))))))
+      (both_pass (code_test s bytes) _ (ap (at_index UnusedCode) (all-miss 0 unused (unpacked (c_part s bytes)) (λ i l. ne_eqb _ 2 (v.coded i (omega (arith, length-codes s sound bytes long))))))
       (both_pass (challenge_test s key bytes) _ (true_passes _ OtherChallenge ((bytes_eq-Decides _ _).1 v.answers))
       (both_pass (counter_test s last bytes) [] (true_passes _ Stale c) refl)))))))
 
@@ -130,7 +130,7 @@ module _ (s : Params) (sound : Sound s) (key : List ℕ) (last : Option ℕ) (by
             ap Ok e ∙ sym (ap (λ (o : Option Refusal). answer o (payment s bytes)) (challenge-passed ∙ ap (λ (b : Bool). first_hit (unless b Stale ∷ [])) h))
 
 -- a record that has been read says what its bytes say
-pub content_is : (s : Params) (bytes : List ℕ) (r : Record) → r.counter ≡ num2 bytes 6 → r.digest.now ≡ digest_part bytes → r.z.now ≡ z_part s bytes → r.challenge.now ≡ c-part s bytes
+pub content_is : (s : Params) (bytes : List ℕ) (r : Record) → r.counter ≡ num2 bytes 6 → r.digest.now ≡ digest_part bytes → r.z.now ≡ z_part s bytes → r.challenge.now ≡ c_part s bytes
     → content s r ≡ decode s bytes
 content_is s bytes r a b c d = cc
 
@@ -145,8 +145,8 @@ module _ (s : Params) (sound : Sound s) (bytes : List ℕ) (read : first_hit (re
   pub length-z-part : (xs : List ℕ) → xs ≡ z_part s bytes → length xs ≡ 4 * s.n
   length-z-part xs e = ap length e ∙ length-take-le (4 * s.n) (drop 40 bytes) (omega (arith, long, length-drop 40 bytes))
 
-  pub length-c-part : (xs : List ℕ) → xs ≡ c-part s bytes → 4 * length xs ≡ s.n
-  length-c-part xs e = omega (arith, ap length e, long, length-drop (40 + 4 * s.n) bytes, n_quarters s sound)
+  pub length-c_part : (xs : List ℕ) → xs ≡ c_part s bytes → 4 * length xs ≡ s.n
+  length-c_part xs e = omega (arith, ap length e, long, length-drop (40 + 4 * s.n) bytes, n_quarters s sound)
 
 pub payment_is : (s : Params) (bytes : List ℕ) (p : Payment) → p.counter ≡ num2 bytes 6 → p.digest ≡ digest_part bytes → p ≡ payment s bytes
 payment_is s bytes p a b = let paid : ℕ → List ℕ → Payment = λ counter digest. record { counter = counter; digest = digest } in ap₂ paid a b

@@ -1,7 +1,7 @@
 -- Plain verification: when a record is a signature under a public key. A key's area holds the n words of a and then those of t.
 use Rattle.std.specs.Prelude.{◌≡◌, ℕ, ◌-◌, ◌*◌, ◌<◌, ◌≤◌, Bool, List, map, length, take, drop, pos, ◌≢◌, slice_index, slice_index_or, unsigned_abs}
 use Rattle.params.specs.Params.{Params, reach}
-use Rattle.record.specs.Layout.{Content, size, kind, num2, num4, c-part, coefficient, unpacked, z_of, decode}
+use Rattle.record.specs.Layout.{Content, size, kind, num2, num4, c_part, coefficient, unpacked, z_of, decode}
 use Rattle.ring.specs.Ring.{Residues, residue, plus, minus, product}
 use Rattle.std.specs.Str.{bytes_eq}
 use Rattle.record.specs.declared.view.Record.{Record}
@@ -28,7 +28,7 @@ pub record Verifies (s : Params) (key bytes : List ℕ) : Type 0 where
   pub length_field : num4 bytes 0 ≡ size s - 4
   pub kind_field : num2 bytes 4 ≡ kind s
   pub near : (i : ℕ) → i < 2 * s.n → unsigned_abs (slice_index_or (decode s bytes).z i (pos 0)) ≤ reach s
-  pub coded : (i : ℕ) → i < s.n → slice_index (unpacked (c-part s bytes)) i ≢ 2
+  pub coded : (i : ℕ) → i < s.n → slice_index (unpacked (c_part s bytes)) i ≢ 2
   pub answers : expected s key (decode s bytes) ≡ (decode s bytes).c
 
 -- what a record that has been read says

@@ -1,5 +1,5 @@
-use Rattle.ring.proofs.Loops.{last-is}
+use Rattle.ring.proofs.Loops.{last_is}
 use Rattle.ring.proofs.last.Goals as goal
 
 pub returns : goal.returns
-returns c = last-is c.args.b.now c.requires
+returns c = last_is c.args.b.now c.requires

@@ -9,16 +9,16 @@ use Rattle.std.proofs.lemmas.Result.{err_from_is_err_and}
 use Rattle.record.proofs.Hits.{hits, hits_two, passes}
 use Rattle.record.proofs.Rewriting.{written_again}
 use Rattle.record.proofs.reader.read.Goals as goal
-use Rattle.record.specs.Layout.{size, kind, num2, num4, z_of, unpacked, z_part, c-part}
+use Rattle.record.specs.Layout.{size, kind, num2, num4, z_of, unpacked, z_part, c_part}
 use Rattle.refusal.specs.Tests.{at_index, first_hit}
 use Rattle.record.specs.Reading.{far, size_test, kind_test, reach_test, code_test}
-use Rattle.search.specs.First.{first-at}
+use Rattle.search.specs.First.{first_at}
 
 -- where the parts of a body lie in the bytes
 z-place : (s : Params) (bytes body z : List ℕ) → body ≡ drop 6 bytes → z ≡ take (4 * s.n) (drop 34 body) → z ≡ z_part s bytes
 z-place s bytes body z b e = e ∙ ap (λ (xs : List ℕ). take (4 * s.n) (drop 34 xs)) b ∙ ap (take (4 * s.n)) (drop-drop 34 6 bytes)
 
-c-place : (s : Params) (bytes body c : List ℕ) → body ≡ drop 6 bytes → c ≡ drop (34 + 4 * s.n) body → c ≡ c-part s bytes
+c-place : (s : Params) (bytes body c : List ℕ) → body ≡ drop 6 bytes → c ≡ drop (34 + 4 * s.n) body → c ≡ c_part s bytes
 c-place s bytes body c b e =
     e ∙ ap (drop (34 + 4 * s.n)) b ∙ drop-drop (34 + 4 * s.n) 6 bytes ∙ ap (λ (k : ℕ). drop k bytes) (omega arith)
 
@@ -46,7 +46,7 @@ returns-in-Some g c =
     let opens = c.in_ok-body.ensures in
     let z = z-place s bytes _ _ opens.3 c.split_body-record.ensures.z in
     let hit : reach_test s bytes ≡ Some (OutOfReach c.in-Some.index) =
-    ap (at_index OutOfReach) (ap (λ (xs : List ℕ). first-at (far s) (z_of xs)) (sym z) ∙ sym c.first_far.ensures ∙ c.in-Some.is) in
+    ap (at_index OutOfReach) (ap (λ (xs : List ℕ). first_at (far s) (z_of xs)) (sym z) ∙ sym c.first_far.ensures ∙ c.in-Some.is) in
     passes (size_test s bytes) _ opens.0 ∙ passes (kind_test s bytes) _ opens.1 ∙ hits (reach_test s bytes) _ _ hit
 
 pub first_unused-requires : goal.first_unused-requires
@@ -65,9 +65,9 @@ returns-in-Some-first_unused g c =
     let opens = c.in_ok-body.ensures in
     let z = z-place s bytes _ _ opens.3 c.split_body-record.ensures.z in
     let codes = c-place s bytes _ _ opens.3 c.split_body-record.ensures.challenge in
-    let near : reach_test s bytes ≡ None = ap (at_index OutOfReach) (ap (λ (xs : List ℕ). first-at (far s) (z_of xs)) (sym z) ∙ sym c.first_far.ensures ∙ c.in_default.is) in
+    let near : reach_test s bytes ≡ None = ap (at_index OutOfReach) (ap (λ (xs : List ℕ). first_at (far s) (z_of xs)) (sym z) ∙ sym c.first_far.ensures ∙ c.in_default.is) in
     let hit : code_test s bytes ≡ Some (UnusedCode c.in-Some-first_unused.index) =
-    ap (at_index UnusedCode) (ap (λ (xs : List ℕ). first-at unused (unpacked xs)) (sym codes) ∙ sym c.first_unused.ensures ∙ c.in-Some-first_unused.is) in
+    ap (at_index UnusedCode) (ap (λ (xs : List ℕ). first_at unused (unpacked xs)) (sym codes) ∙ sym c.first_unused.ensures ∙ c.in-Some-first_unused.is) in
     passes (size_test s bytes) _ opens.0 ∙ passes (kind_test s bytes) _ opens.1 ∙ passes (reach_test s bytes) _ near ∙ hits (code_test s bytes) _ _ hit
 
 pub returns : goal.returns
@@ -79,8 +79,8 @@ returns g c =
     let parts = c.split_body-record.ensures in
     let z = z-place s bytes _ _ opens.3 parts.z in
     let codes = c-place s bytes _ _ opens.3 parts.challenge in
-    let near : reach_test s bytes ≡ None = ap (at_index OutOfReach) (ap (λ (xs : List ℕ). first-at (far s) (z_of xs)) (sym z) ∙ sym c.first_far.ensures ∙ c.in_default.is) in
-    let used : first-at unused (unpacked (c-part s bytes)) ≡ None = ap (λ (xs : List ℕ). first-at unused (unpacked xs)) (sym codes) ∙ sym c.first_unused.ensures ∙ c.in_default-first_unused.is in (
+    let near : reach_test s bytes ≡ None = ap (at_index OutOfReach) (ap (λ (xs : List ℕ). first_at (far s) (z_of xs)) (sym z) ∙ sym c.first_far.ensures ∙ c.in_default.is) in
+    let used : first_at unused (unpacked (c_part s bytes)) ≡ None = ap (λ (xs : List ℕ). first_at unused (unpacked xs)) (sym codes) ∙ sym c.first_unused.ensures ∙ c.in_default-first_unused.is in (
       passes (size_test s bytes) _ opens.0 ∙ passes (kind_test s bytes) _ opens.1 ∙ passes (reach_test s bytes) _ near ∙ passes (code_test s bytes) _ (ap (at_index UnusedCode) used),
       parts.counter ∙ counter-place bytes _ opens.3,
       parts.digest ∙ ap (λ (xs : List ℕ). take 32 (drop 2 xs)) opens.3 ∙ ap (take 32) (drop-drop 2 6 bytes),

@@ -6,7 +6,7 @@ use Rattle.refusal.specs.declared.Refusal.TheVariants.{OtherChallenge, Stale}
 use Rattle.refusal.specs.declared.Refusal.{Refusal}
 use Rattle.std.proofs.lemmas.Result.{err_from_is_err_and}
 use Rattle.std.specs.Str.{bytes_eq}
-use Rattle.till.proofs.Accepting.{accepts-ok, challenge-refused, content_is, counter-refused, key-refused, length-c-part, length-digest, length-z-part, ok-accepts, payment_is, record-refused, refused, taken, unchanged}
+use Rattle.till.proofs.Accepting.{accepts-ok, challenge-refused, content_is, counter-refused, key-refused, length-c_part, length-digest, length-z-part, ok-accepts, payment_is, record-refused, refused, taken, unchanged}
 use Rattle.till.proofs.Till.check.Goals as goal
 use Rattle.till.specs.Verdict.{above, verdict}
 use Rattle.till.specs.Verification.{answering, content, expected}
@@ -48,7 +48,7 @@ answers-requires g c =
     record {
       key = c.in_ok-check_key.ensures.2;
       z = length-z-part s sound bytes parts.0 _ parts.3;
-      challenge = length-c-part s sound bytes parts.0 _ parts.4;
+      challenge = length-c_part s sound bytes parts.0 _ parts.4;
     }
 
 -- whether the challenge is the one that is called for, of the bytes
