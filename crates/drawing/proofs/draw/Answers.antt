@@ -40,7 +40,7 @@ scatter-requires g c =
     let top = g.S.ParamSet.sound.n_most in
     let n = c.degree-n.ensures in
     let end = c.coefficients-i-end.ensures in
-    (omega arith, (omega arith, (omega arith, (most, polynomial-inside c.degree-n.result g.row.M (omega arith) 2 c.coefficients.i c.coefficients.y (omega (arith, c.coefficients-test.true)) (c.coefficients.auto.y ∙ c.requires.sized ∙ ap (λ (k : ℕ). 2 * g.row.M * k) (sym n))))))
+    (omega arith, ((omega arith, (omega arith, most)), polynomial-inside c.degree-n.result g.row.M (omega arith) 2 c.coefficients.i c.coefficients.y (omega (arith, c.coefficients-test.true)) (c.coefficients.auto.y ∙ c.requires.sized ∙ ap (λ (k : ℕ). 2 * g.row.M * k) (sym n))))
 
 pub coefficients-preserved : goal.coefficients-preserved
 coefficients-preserved g c =
