@@ -1,5 +1,5 @@
 -- A load makes a card that stands at the start of its life.
-use Rattle.std.proofs.Common.{◌≡◌, ℕ, ◌-◌, ◌*◌, ◌<◌, ◌≤◌, List, [], ◌++◌, length, get_or, take, drop, ℤ, Some, None, Ok, Err, Option, sym, refl, ap, ◌∙◌, subst, arith, take-append-drop}
+use Rattle.std.proofs.Common.{◌≡◌, ℕ, ◌-◌, ◌*◌, ◌<◌, ◌≤◌, List, [], ◌++◌, length, get_or, take, drop, ℤ, Some, None, Ok, Err, Option, Result, OnOk, sym, refl, ap, ◌∙◌, subst, arith, take-append-drop}
 use Rattle.std.proofs.lemmas.List.{get_or-drop, get_or-take, length-drop, length-take-le}
 use Rattle.params.specs.Params.{Params, Sound}
 use Rattle.refusal.specs.declared.Refusal.{Refusal}
@@ -59,3 +59,9 @@ begins_with s sound m secret o l public public' key key' f f' h able value resid
         public_is = published s m secret o l public public' key key' f f' h;
       };
     }
+
+-- the same of any answer: where no card was made there is nothing to show
+pub begins : (s : Params) → Sound s → (m : ℕ) (secret : List ℤ) (o : Option Refusal) (r : Result Loaded Refusal) (public public' key key' : List ℕ) (f f' : Flow) → LoadBy s m secret o r public public' key key' f f'
+    → OnOk r (Loadable s m secret public key) → OnOk r (recombined s m key' ≡ residues_of s secret) → OnOk r (Residues s.p key') → length key' ≡ length key → OnOk r (Begins s m secret public (areas key' public' [] []) f')
+begins s sound m secret o (Ok l) public public' key key' f f' h able value residues kept = begins_with s sound m secret o l public public' key key' f f' h able value residues kept
+begins s sound m secret o (Err e) public public' key key' f f' h able value residues kept = tt
