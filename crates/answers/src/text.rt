@@ -32,7 +32,7 @@ fn digit(value: u8) -> char
 }
 
 fn write_hex<W: fmt::Write>(bytes: &[u8], f: &mut fmt::Formatter<W>) -> fmt::Result
-    ensures { WritesOnOk write_str_gives f.old result (spell hex_text bytes.now) f.new }
+    ensures { WritesOnOk W.write_str_gives f.old result (spell hex_text bytes.now) f.new }
 {
     'bytes: for byte in bytes {
         write!(f, "{}{}", digit(*byte / 16), digit(*byte % 16))?;
@@ -42,7 +42,7 @@ fn write_hex<W: fmt::Write>(bytes: &[u8], f: &mut fmt::Formatter<W>) -> fmt::Res
 
 // Each word behind a space.
 fn write_words<W: fmt::Write>(words: &[u32], f: &mut fmt::Formatter<W>) -> fmt::Result
-    ensures { WritesOnOk write_str_gives f.old result (spell word_text words.now) f.new }
+    ensures { WritesOnOk W.write_str_gives f.old result (spell word_text words.now) f.new }
 {
     'words: for word in words {
         write!(f, " {word}")?;

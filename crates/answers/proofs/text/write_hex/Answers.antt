@@ -21,7 +21,7 @@ byte-text b c d h ec ed =
     rw (ec, ed, digit-text (b / 16) high, digit-text (b % 16) low)
 
 pub bytes-preserved : goal.bytes-preserved
-bytes-preserved g c = put_next g.W.Write.write_str_gives hex_text c.args.bytes.now _ c.bytes.byte-index _ c.bytes.f _ c.bytes-test.true (byte-text _ _ _ (search rules) c.digit.ensures c.digit-in-bytes.ensures) c.bytes.invariant (λ plain. c.in_ok-write.ensures.shows plain refl)
+bytes-preserved g c = put_next g.W.Write.write_str_gives hex_text c.args.bytes.now _ c.bytes.byte-index _ c.bytes.f _ c.bytes-test.true (byte-text _ _ _ (search rules) c.digit.ensures c.digit-in-bytes.ensures) c.bytes.invariant (λ plain. c.in_ok-write.ensures.writes plain refl)
 
 pub returns : goal.returns
 returns g c = λ plain _. put_all g.W.Write.write_str_gives hex_text c.args.bytes.now c.bytes.byte-index _ _ c.bytes-test.false c.bytes.invariant plain

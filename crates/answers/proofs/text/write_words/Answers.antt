@@ -7,7 +7,7 @@ pub words-init : goal.words-init
 words-init g c = put-none g.W.Write.write_str_gives c.args.f.now
 
 pub words-preserved : goal.words-preserved
-words-preserved g c = put_next g.W.Write.write_str_gives word_text c.args.words.now _ c.words.word-index _ c.words.f _ c.words-test.true refl c.words.invariant (λ plain. c.in_ok-write.ensures.shows plain refl)
+words-preserved g c = put_next g.W.Write.write_str_gives word_text c.args.words.now _ c.words.word-index _ c.words.f _ c.words-test.true refl c.words.invariant (λ plain. c.in_ok-write.ensures.writes plain refl)
 
 pub returns : goal.returns
 returns g c = λ plain _. put_all g.W.Write.write_str_gives word_text c.args.words.now c.words.word-index _ _ c.words-test.false c.words.invariant plain
