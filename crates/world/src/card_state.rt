@@ -71,7 +71,7 @@ pub(crate) fn refill(
 
 // Where a record was made, the record area becomes the last record.
 fn keep(reply: Reply, record: Vec<u8>, made: &mut Vec<u8>)
-    ensures { Records reply «record».items IfOk.entry.now IfOk.exit.now }
+    ensures { Records reply «record».items made.old made.new }
 {
     if let Reply::Signed(Ok(_)) = reply {
         *made = record;
@@ -184,7 +184,7 @@ impl CardState {
         public: &[u32],
         made: &mut Vec<u8>,
     ) -> Result<Answer, AllocError>
-        ensures { MatchResult result (λ a. Calls S.params call.now self.old.card self.old public.now IfOk.entry.now a self.new IfOk.exit.now) (λ _. (self.new ≡ self.old) × (IfOk.exit.now ≡ IfOk.entry.now)) }
+        ensures { MatchResult result (λ a. Calls S.params call.now self.old.card self.old public.now made.old a self.new made.new) (λ _. (self.new ≡ self.old) × (made.new ≡ made.old)) }
     {
         let mut work = zeros(heap, lent_size(self.work, work_size::<S>(self.shares)))?;
         let mut record = zero_bytes(heap, lent_size(self.room, record::size::<S>()))?;
@@ -214,7 +214,7 @@ impl CardState {
         public: &[u32],
         made: &mut Vec<u8>,
     ) -> Result<Answer, AllocError>
-        ensures { MatchResult result (λ a. Calls (params_of set) call.now self.old.card self.old public.now IfOk.entry.now a self.new IfOk.exit.now) (λ _. (self.new ≡ self.old) × (IfOk.exit.now ≡ IfOk.entry.now)) }
+        ensures { MatchResult result (λ a. Calls (params_of set) call.now self.old.card self.old public.now made.old a self.new made.new) (λ _. (self.new ≡ self.old) × (made.new ≡ made.old)) }
     {
         match set {
             SetName::S => self.call_in::<SetS>(heap, call, public, made),

@@ -23,5 +23,5 @@ calls-preserved c =
     let once = more inv.1 c.in_ok-answer.ensures in
     let one = c.from-done.ensures ∙ ap bool_byte c.is_ok.ensures ∙ bit (is_ok answer) in (
       omega (arith, c.from-done.ensures, bit_le c.is_ok.result),
-      subst (λ (n : ℕ). Repeated c.args.self.now c.args.call.now (c.calls.-turn + 1) (c.calls.done + n) (Some answer) c.call.new.self) (sym one) once,
+      subst (λ (n : ℕ). Repeated c.args.self.now c.args.call.now (c.calls._turn + 1) (c.calls.done + n) (Some answer) c.call.new.self) (sym one) once,
     )
