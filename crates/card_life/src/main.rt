@@ -1,0 +1,12 @@
+// A card from its load to the end of its counter, with a till beside it.
+#![tactic(auto)]
+
+use std::io;
+
+fn main(rt: HostRuntime) -> io::Result<()> {
+    let result = runner::run(&rt);
+    if let Err(e) = &result {
+        eprintln!(rt; "scenario: {e}")?;
+    }
+    result
+}
