@@ -1,7 +1,6 @@
 -- The ends of an attempt, by its stages.
 use Rattle.std.proofs.Common.{◌≡◌, ℕ, ◌+◌, ◌*◌, ◌<◌, true, false, ◌⊎◌, List, [], length, ℤ, sym, refl, ap, ◌∙◌, ap₂, inl, inr}
 use Rattle.params.specs.Params.{Params}
-use Rattle.words.specs.declared.Mark.{Mark}
 use Rattle.words.specs.Flow.{Flow}
 use Rattle.words.specs.Spending.{Spent}
 use Rattle.refusal.specs.declared.fault.Step.{Step}
@@ -12,7 +11,7 @@ use Rattle.record.specs.Writing.{content_of}
 use Rattle.challenge.specs.Challenge.{challenge}
 use Rattle.polys.specs.Area.{recombined}
 use Rattle.plain.specs.Costs.{cost}
-use Rattle.plain.specs.Run.{Outcome, masks_ended, closed}
+use Rattle.plain.specs.Run.{masks_ended, closed}
 use Rattle.drawing.specs.Resume.{Subject, Stops}
 use Rattle.drawing.specs.Drawing.{Drawing}
 use Rattle.attempt.specs.declared.stopped.Stopped.{Stopped}

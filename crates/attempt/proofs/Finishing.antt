@@ -1,5 +1,5 @@
 -- An attempt that has its nonces, as a part of the run.
-use Rattle.std.proofs.Common.{◌≡◌, ℕ, ◌+◌, ◌-◌, ◌*◌, ◌<◌, ◌≤◌, true, false, leb, List, [], length, sym, refl, ap, ◌∙◌, ap₂, add-zero, add_assoc, arith, length-drop, le-ltb}
+use Rattle.std.proofs.Common.{◌≡◌, ℕ, ◌+◌, ◌-◌, ◌*◌, ◌<◌, ◌≤◌, true, false, leb, List, [], length, sym, ap, ◌∙◌, add-zero, arith, length-drop, le-ltb}
 use Rattle.params.specs.Params.{Params}
 use Rattle.words.specs.declared.Mark.{Mark}
 use Rattle.words.specs.Flow.{Flow}
@@ -10,7 +10,7 @@ use Rattle.refusal.specs.declared.fault.Step.TheVariants.{Commit, Check, Open}
 use Rattle.record.specs.Layout.{Content}
 use Rattle.plain.specs.Costs.{cost}
 use Rattle.plain.specs.Nonces.{whole}
-use Rattle.plain.specs.Run.{Setting, Run, Outcome, masks_ended, signed, all_failed, passed, rejected, unfinished, choose, closed, finish, passes, run, stop, after_rejected}
+use Rattle.plain.specs.Run.{Setting, masks_ended, signed, all_failed, passed, rejected, unfinished, choose, closed, finish, passes, run, stop, after_rejected}
 use Rattle.plain.proofs.Paths.{choose_not, finish-short-commit, finish-short-check, finish-short-open, finish-passed, finish-rejected, short-at}
 use Rattle.drawing.specs.Resume.{Subject, Supply, setting_of, resume, Fits, Stops}
 use Rattle.drawing.specs.Drawing.{Drawing}

@@ -6,7 +6,7 @@ use Rattle.words.specs.Spending.{Spent}
 use Rattle.record.specs.Layout.{Content, encode}
 use Rattle.polys.specs.Area.{recombined}
 use Rattle.plain.specs.Nonces.{whole}
-use Rattle.plain.specs.Run.{Key, Setting, Run, Outcome, signed, all_failed, rejected, choose, closed, run, stop, after_rejected}
+use Rattle.plain.specs.Run.{Key, signed, all_failed, rejected, choose, run, stop, after_rejected}
 use Rattle.drawing.specs.Resume.{Subject, Supply, setting_of, resume, Fits, Stops}
 use Rattle.attempt.specs.declared.stopped.Stopped.{Stopped}
 use Rattle.attempt.specs.Stages.{Halted}

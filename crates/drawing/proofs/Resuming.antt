@@ -1,5 +1,5 @@
 -- How the run goes on, candidate by candidate.
-use Rattle.std.proofs.Common.{◌≡◌, ℕ, ◌+◌, ◌-◌, ◌*◌, ◌<◌, ◌≤◌, ltb, List, [], ◌∷◌, ◌++◌, length, take, drop, sym, refl, ap, ◌∙◌, subst, ap₂, add-zero, add_assoc, mul-zero, mul-one, mul-add, arith, length-drop, lt-ltb}
+use Rattle.std.proofs.Common.{◌≡◌, ℕ, ◌+◌, ◌-◌, ◌*◌, ◌<◌, ◌≤◌, ltb, List, [], ◌∷◌, ◌++◌, length, take, sym, ap, ◌∙◌, subst, ap₂, add-zero, add_assoc, mul-zero, mul-one, mul-add, arith, length-drop, lt-ltb}
 use Rattle.std.proofs.lemmas.List.{drop_all, length_push}
 use Rattle.params.specs.Params.{Params}
 use Rattle.words.specs.declared.Mark.{Mark}
@@ -10,7 +10,7 @@ use Rattle.refusal.specs.declared.fault.Step.TheVariants.{Candidate, Conversion}
 use Rattle.shares.specs.Refresh.{pairs}
 use Rattle.plain.specs.Nonces.{limit, whole, cut_short, candidate, coefficient}
 use Rattle.plain.specs.Costs.{cost, mask_words}
-use Rattle.plain.specs.Run.{Setting, Run, Outcome, Fate, nonces_ended, masks_ended, unfinished, at, choose, closed, finish, run, stop}
+use Rattle.plain.specs.Run.{Setting, Run, Outcome, nonces_ended, masks_ended, unfinished, at, choose, closed, finish, run, stop}
 use Rattle.plain.proofs.Groups.{flat, whole-and-cut, whole-few, cut_all, whole-more, cut-more}
 use Rattle.plain.proofs.Paths.{choose_is, charge-paid, charge-short, consider-short, consider-refused, consider-accepted}
 use Rattle.drawing.specs.Resume.{Subject, Supply, setting_of, resume, Fits, Leads, Stops}

@@ -1,7 +1,6 @@
 -- Drawing the nonces of an attempt.
-use Rattle.std.specs.Prelude.{◌≡◌, ℕ, ◌+◌, ◌-◌, ◌*◌, List, [], Ok, Err, Result}
+use Rattle.std.specs.Prelude.{ℕ, ◌*◌, List, [], Ok, Err, Result}
 use Rattle.params.specs.Params.{Params}
-use Rattle.words.specs.declared.Mark.{Mark}
 use Rattle.words.specs.Flow.{Flow}
 use Rattle.words.specs.Spending.{Spent}
 use Rattle.refusal.specs.declared.fault.Step.{Step}

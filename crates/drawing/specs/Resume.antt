@@ -1,5 +1,5 @@
 -- A plain signing from the middle of an attempt on.
-use Rattle.std.specs.Prelude.{◌≡◌, ℕ, ◌+◌, ◌-◌, ◌*◌, ◌<◌, List, [], ◌∷◌, ◌++◌, length, nat_lt}
+use Rattle.std.specs.Prelude.{◌≡◌, ℕ, ◌+◌, ◌-◌, ◌*◌, ◌<◌, List, [], length, nat_lt}
 use Rattle.params.specs.Params.{Params}
 use Rattle.words.specs.declared.Mark.{Mark}
 use Rattle.words.specs.Flow.{Flow}

@@ -1,5 +1,5 @@
 -- What a feed has still to give.
-use Rattle.std.specs.Prelude.{ℕ, ◌^◌, ◌≤◌, length, drop, vec_items}
+use Rattle.std.specs.Prelude.{◌^◌, ◌≤◌, length, drop, vec_items}
 use Rattle.std.proofs.Common.{arith, length-drop}
 use Rattle.words.specs.Flow.{Flow, from}
 use Rattle.words.specs.Generators.{generator_flow, generator_few}

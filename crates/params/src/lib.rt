@@ -5,8 +5,7 @@ ghost use Rattle.std.specs.Prelude.{◌≡◌};
 ghost use Rattle.params.specs.Params.{Params, Sound, reach, set_s, set_i};
 ghost use Rattle.params.specs.Sets.{sound_s, sound_i};
 
-// A contract cannot name an associated constant, so each has a function that tells its value;
-// `sound` hands every generic proof the conditions on a set.
+// Each constant has a function whose contract tells its value; `sound` hands every generic proof the conditions on a set.
 pub trait ParamSet {
     const N: usize;
 

@@ -1,5 +1,5 @@
 -- Plain signing: what one signing does, on the key and the nonces themselves, with each step charged its words.
-use Rattle.std.specs.Prelude.{ℕ, ◌+◌, ◌-◌, ◌*◌, ◌/◌, ◌%◌, Bool, true, false, cond, List, [], ◌∷◌, ◌++◌, map, length, take, drop, nat_le, nat_lt}
+use Rattle.std.specs.Prelude.{ℕ, ◌+◌, ◌-◌, ◌*◌, ◌/◌, ◌%◌, Bool, cond, List, [], ◌∷◌, ◌++◌, map, length, take, drop, nat_le, nat_lt}
 use Rattle.std.specs.List.{flat_map}
 use Rattle.params.specs.Params.{Params}
 use Rattle.words.specs.declared.Mark.{Mark}

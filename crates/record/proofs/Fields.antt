@@ -1,5 +1,5 @@
 -- Coefficients by their places in the bytes.
-use Rattle.std.proofs.Common.{◌≡◌, ℕ, zero, suc, ◌+◌, ◌-◌, ◌*◌, ◌/◌, ◌%◌, ◌^◌, ◌<◌, ◌≤◌, List, [], ◌∷◌, length, get_or, ℤ, sym, refl, ap, ◌∙◌, ap₂, arith, w16, to_z}
+use Rattle.std.proofs.Common.{◌≡◌, ℕ, zero, suc, ◌+◌, ◌*◌, ◌/◌, ◌%◌, ◌^◌, ◌<◌, List, [], ◌∷◌, length, get_or, ℤ, sym, refl, ap, ◌∙◌, ap₂, arith, w16, to_z}
 use Rattle.record.specs.Layout.{z_of, unpacked}
 
 pub length_z : (bs : List ℕ) → length (z_of bs) ≡ length bs / 2

@@ -1,5 +1,5 @@
 -- What the writer writes of a proper content, the reader reads.
-use Rattle.std.proofs.Common.{◌≡◌, ℕ, zero, suc, ◌+◌, ◌-◌, ◌*◌, ◌/◌, ◌%◌, ◌^◌, ◌<◌, ◌≤◌, Bool, false, eqb, ltb, ◌⊎◌, List, [], ◌∷◌, ◌++◌, map, length, take, drop, ℤ, pos, negsuc, nat_abs, None, sym, refl, ap, ◌∙◌, ap₂, inl, inr, arith, w16, Fits, SFits, to_z, of_z}
+use Rattle.std.proofs.Common.{◌≡◌, ℕ, zero, suc, ◌+◌, ◌-◌, ◌*◌, ◌/◌, ◌%◌, ◌^◌, ◌<◌, ◌≤◌, Bool, false, eqb, ltb, List, [], ◌∷◌, ◌++◌, map, length, take, drop, ℤ, pos, negsuc, nat_abs, None, sym, refl, ap, ◌∙◌, ap₂, inl, inr, arith, w16, Fits, SFits, to_z, of_z}
 use mir.Facts.{Fits-of_z}
 use Rattle.std.proofs.ByRecursion.{All-map, All-weaker}
 use Rattle.std.proofs.lemmas.List.{drop_at, drop-drop, length-append, length-map, take_at}
@@ -10,7 +10,7 @@ use Rattle.params.proofs.Facts.{n_quarters}
 use Rattle.params.specs.Params.{Params, Sound, reach}
 use Rattle.refusal.specs.declared.Refusal.TheVariants.{RecordSize, Kind, OutOfReach, UnusedCode}
 use Rattle.record.proofs.Hits.{passes}
-use Rattle.record.specs.Layout.{Content, size, kind, num2, num4, z_bytes, z_of, code_of, coefficient, packed, unpacked, digest_part, z_part, c_part, encode, decode}
+use Rattle.record.specs.Layout.{Content, size, kind, num2, num4, z_bytes, z_of, code_of, coefficient, packed, unpacked, z_part, c_part, encode, decode}
 use Rattle.refusal.specs.Tests.{at_index, first_hit, unless}
 use Rattle.record.specs.Reading.{far, size_test, kind_test, reach_test, code_test, record_tests}
 use Rattle.search.specs.First.{first_from, first_at}

@@ -1,10 +1,10 @@
 -- What the reader accepts is what the writer would write.
-use Rattle.std.proofs.Common.{◌≡◌, ℕ, zero, suc, ◌+◌, ◌-◌, ◌*◌, ◌/◌, ◌%◌, ◌^◌, ◌<◌, ◌≤◌, Bool, true, false, cond, eqb, ltb, List, [], ◌∷◌, ◌++◌, map, length, get_or, take, drop, Some, None, Option, sym, refl, ap, ◌∙◌, ap₂, inl, inr, arith, lit<, w16, Fits, to_z, of_z}
+use Rattle.std.proofs.Common.{◌≡◌, ℕ, zero, suc, ◌+◌, ◌-◌, ◌*◌, ◌/◌, ◌%◌, ◌<◌, Bool, false, eqb, ltb, List, [], ◌∷◌, ◌++◌, map, length, take, drop, Some, None, sym, refl, ap, ◌∙◌, ap₂, inl, inr, arith, lit<, w16, Fits}
 use mir.Facts.{of_z-to_z}
-use Rattle.std.proofs.lemmas.List.{take-append-drop, drop-drop, length-take-le, length-drop, get_or-take, get_or-drop}
-use Rattle.std.proofs.lemmas.Bool.{cond-true, cond-false, cases_Bool, cases_eq, eqb-true, eqb-false, eq-eqb, ne_eqb, lt-ltb, le-ltb}
+use Rattle.std.proofs.lemmas.List.{take-append-drop, drop-drop, length-take-le, length-drop, get_or-drop}
+use Rattle.std.proofs.lemmas.Bool.{cond-true, cond-false, cases_Bool, cases_eq, eqb-false, eq-eqb, ne_eqb, lt-ltb, le-ltb}
 use Rattle.params.specs.Params.{Params}
-use Rattle.record.specs.Layout.{Content, size, kind, le2, le4, num2, num4, z_bytes, z_of, code_of, coefficient, packed, unpacked, digest_part, z_part, c_part, encode, decode}
+use Rattle.record.specs.Layout.{size, kind, le2, le4, num2, num4, z_bytes, z_of, code_of, coefficient, packed, unpacked, digest_part, z_part, c_part, encode, decode}
 use Rattle.search.specs.First.{first_from, first_at}
 use Rattle.record.proofs.Bytes.{Bytes, le2_of, le2_at, le4_at}
 

@@ -10,7 +10,6 @@ use Rattle.refusal.specs.declared.fault.Counts.{Counts}
 use Rattle.refusal.specs.declared.fault.Fault.{Fault}
 use Rattle.refusal.specs.declared.fault.Step.{Step}
 use Rattle.refusal.specs.declared.fault.Step.TheVariants.{Candidate, Conversion, Commit, Check, Open}
-use Rattle.refusal.specs.Numbers.{step_number}
 
 abbrev pub number_of : Refusal → ℕ
 number_of ShareCount = 1

@@ -1,7 +1,7 @@
 -- The laws of `bit_and` and `bit_xor` that the library lacks, by induction on the binary digits.
-use Rattle.std.proofs.Common.{◌≡◌, ℕ, zero, suc, ◌+◌, ◌-◌, ◌*◌, ◌/◌, ◌%◌, ◌^◌, ◌<◌, ◌≤◌, sym, refl, ap, ◌∙◌, subst, ap₂, suc-le-suc, zero-le, mod-lt, zero-lt-suc, div-add-mod', arith}
+use Rattle.std.proofs.Common.{◌≡◌, ℕ, zero, suc, ◌/◌, ◌%◌, ◌<◌, sym, refl, ap, ◌∙◌, ap₂, mod-lt, zero-lt-suc, arith}
 use lib.Arith.{bin_ind}
-use lib.Bits.{bit_and, bit_xor, and_shr, and_mod, xor_shr, xor_mod, and_comm, xor_comm, xor_assoc, xor_self, xor_zero_r, and_zero_r}
+use lib.Bits.{bit_and, bit_xor, and_shr, and_mod, xor_shr, xor_mod, and_comm, xor_comm, xor_assoc, xor_self}
 
 pub by_digits : (a b : ℕ) → a / 2 ≡ b / 2 → a % 2 ≡ b % 2 → a ≡ b
 by_digits a b hi lo = omega arith

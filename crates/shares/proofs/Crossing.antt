@@ -1,9 +1,9 @@
 -- SecAnd part of the way: what is still to do comes to the whole.
-use Rattle.std.proofs.Common.{◌≡◌, ℕ, suc, ◌+◌, ◌≤◌, List, [], ◌∷◌, length, get_or, drop, Ok, Err, sym, refl, ap, ◌∙◌, arith}
+use Rattle.std.proofs.Common.{◌≡◌, ℕ, ◌+◌, List, ◌∷◌, length, Ok, Err, sym, refl, ap, ◌∙◌, arith}
 use Rattle.words.specs.declared.Mark.{Mark}
 use Rattle.words.specs.Flow.{Flow, Drawn}
 use Rattle.words.specs.Spending.{Spent, Short}
-use Rattle.words.proofs.Spendings.{spent_none, spent_as, spent_then, spent_one, short_one, short_then, short_of}
+use Rattle.words.proofs.Spendings.{spent_none, spent_then, spent_one, short_one, short_then, short_of}
 use Rattle.shares.specs.Conjoined.{crossed, crossed_all}
 use Rattle.shares.proofs.Products.{length_crossed}
 

@@ -1,5 +1,5 @@
 -- A mask and its inverse leave the recombined value as it is; how many pairs there are.
-use Rattle.std.proofs.Common.{◌≡◌, ℕ, zero, suc, ◌+◌, ◌-◌, ◌*◌, ◌/◌, ◌<◌, ◌≤◌, ◌≢◌, List, [], ◌∷◌, ◌++◌, length, get_or, set, sym, refl, ap, ◌∙◌, mul_comm, mul-suc, arith, length-append, length-set, get_or-set_other}
+use Rattle.std.proofs.Common.{◌≡◌, ℕ, zero, suc, ◌+◌, ◌-◌, ◌*◌, ◌<◌, ◌≢◌, List, [], ◌∷◌, length, get_or, set, sym, refl, ap, ◌∙◌, mul_comm, mul-suc, arith, length-append, length-set, get_or-set_other}
 use Rattle.shares.specs.Rule.{Rule, Laws, Within, recombine}
 use Rattle.shares.specs.Refresh.{pairs, row, rows, masked}
 

@@ -1,6 +1,6 @@
 -- SecAnd's shares stand for the conjunction: what its loops have still to add.
 use Rattle.std.proofs.Common.{◌≡◌, ℕ, zero, suc, ◌+◌, ◌<◌, ◌≤◌, List, [], ◌∷◌, ◌++◌, length, get_or, drop, set, sym, refl, ap, ◌∙◌, ap₂, suc-le-suc, arith, length-set, drop-cons}
-use lib.Bits.{bit_and, bit_xor, xor_comm, xor_assoc, xor_self, xor_zero_r, and_zero_r}
+use lib.Bits.{bit_and, bit_xor, xor_assoc, xor_self, xor_zero_r, and_zero_r}
 use Rattle.shares.specs.Groups.{word_rule, word_of}
 use Rattle.shares.specs.Lawful.{word_laws}
 use Rattle.shares.specs.Refresh.{row, rows}

@@ -1,10 +1,10 @@
 -- A refresh part of the way: what is still to do comes to the whole.
-use Rattle.std.proofs.Common.{◌≡◌, ℕ, zero, suc, ◌+◌, ◌-◌, ◌*◌, ◌<◌, ◌≤◌, leb, List, [], ◌∷◌, ◌++◌, length, drop, Ok, Err, Result, sym, refl, ap, ◌∙◌, mul_comm, add-mul, one-mul, arith}
+use Rattle.std.proofs.Common.{◌≡◌, ℕ, suc, ◌+◌, ◌-◌, ◌*◌, ◌<◌, ◌≤◌, leb, List, [], ◌∷◌, ◌++◌, length, drop, Ok, Err, sym, refl, ap, ◌∙◌, mul_comm, add-mul, one-mul, arith}
 use Rattle.std.proofs.lemmas.Bool.{cond-true, cond-false, le-leb, lt-leb}
 use Rattle.words.specs.declared.Mark.{Mark}
 use Rattle.words.specs.Flow.{Flow}
-use Rattle.words.specs.Spending.{Spent, Short, Spends}
-use Rattle.words.proofs.Spendings.{spent_none, spent_then, spent_as, short_then, short_of, times_none, times_more, times_below}
+use Rattle.words.specs.Spending.{Spent}
+use Rattle.words.proofs.Spendings.{spent_none, spent_then, spent_as, short_then, short_of, times_none, times_below}
 use Rattle.shares.specs.Rule.{Rule, Within, recombine}
 use Rattle.shares.specs.Refresh.{pairs, row, rows, masked, refreshed, Pair, Refreshed}
 use Rattle.shares.proofs.Pairs.{length_rows}

@@ -1,13 +1,13 @@
 -- No test hits exactly when the record passes plain verification and its counter is above the last.
-use Rattle.std.proofs.Common.{◌≡◌, ℕ, ◌+◌, ◌-◌, ◌*◌, ◌/◌, ◌%◌, ◌<◌, ◌≤◌, Bool, true, false, ◌&&◌, eqb, ltb, leb, List, [], ◌∷◌, ◌++◌, length, get_or, take, drop, ℤ, pos, nat_abs, is_ok, Some, None, Ok, Err, Option, Result, sym, refl, ap, ◌∙◌, ap₂, arith}
+use Rattle.std.proofs.Common.{◌≡◌, ℕ, ◌+◌, ◌-◌, ◌*◌, Bool, true, false, eqb, leb, List, [], ◌∷◌, ◌++◌, length, drop, pos, is_ok, Some, None, Ok, Err, Option, Result, sym, refl, ap, ◌∙◌, ap₂, arith}
 use Rattle.std.proofs.lemmas.Slice.Eq.{bytes_eq-Decides}
 use Rattle.std.proofs.lemmas.List.{length-take-le, length-drop}
 use Rattle.std.proofs.lemmas.Bool.{and_parts, and_from, eqb-true, eqb-false, eq-eqb, ne_eqb, leb-false, lt-leb, ltb-false, le-ltb}
 use Rattle.std.specs.Str.{bytes_eq}
 use Rattle.params.proofs.Facts.{n_quarters}
-use Rattle.params.specs.Params.{Params, Sound, reach}
+use Rattle.params.specs.Params.{Params, Sound}
 use Rattle.record.proofs.Fields.{length_z, length_unpacked}
-use Rattle.record.specs.Layout.{size, kind, num2, num4, digest_part, z_part, c_part, z_of, unpacked, decode}
+use Rattle.record.specs.Layout.{size, num2, num4, digest_part, z_part, c_part, z_of, unpacked, decode}
 use Rattle.refusal.specs.Tests.{unless, at_index, first_hit}
 use Rattle.record.specs.Reading.{far, kind_test, reach_test, code_test, record_tests}
 use Rattle.record.specs.Reading as reading
@@ -16,10 +16,9 @@ use Rattle.refusal.specs.declared.Refusal.{Refusal}
 use Rattle.refusal.specs.declared.Refusal.TheVariants.{AreaSize, NotResidue, RecordSize, Kind, OutOfReach, UnusedCode, OtherChallenge, Stale}
 use Rattle.refusal.specs.declared.Area.TheVariants.{Public}
 use Rattle.search.proofs.Searching.{none_hits, all-miss}
-use Rattle.search.specs.First.{first_at}
 use Rattle.till.proofs.Hits.{hit_first, hit_later, none_first, none_later, both_pass, passed_true, true_passes, no_index}
 use Rattle.till.specs.Verdict.{Accepts, above, answer, challenge_test, last_after, counter_test, payment, size_test, tests, verdict, word_test}
-use Rattle.till.specs.Verification.{PublicKey, Verifies, content, expected}
+use Rattle.till.specs.Verification.{content, expected}
 use Rattle.till.specs.declared.payment.Payment.{Payment}
 
 module _ (s : Params) (sound : Sound s) (bytes : List ℕ) (sized : length bytes ≡ size s) where

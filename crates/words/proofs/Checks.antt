@@ -5,7 +5,7 @@ use Rattle.std.proofs.lemmas.Bool.{eq-eqb, ne_eqb, lt-ltb, le-ltb, cases_eq, cas
 use Rattle.words.specs.declared.Mark.{Mark}
 use Rattle.words.specs.declared.Mark.TheVariants.{Unhealthy}
 use Rattle.words.specs.Flow.{Flow}
-use Rattle.words.specs.Health.{Repeats, Whole, Withheld, Steady, withheld, checked}
+use Rattle.words.specs.Health.{Repeats, Steady, withheld, checked}
 
 repeats_as : {c : ℕ} {xs ys : List ℕ} → xs ≡ ys → Repeats c xs → Repeats c ys
 repeats_as e p = record { front = p.front; word = p.word; back = p.back; is = sym e ∙ p.is }

@@ -1,5 +1,5 @@
 -- The tape: what it has still to give.
-use Rattle.std.specs.Prelude.{◌≡◌, ℕ, ◌-◌, ◌^◌, ◌≤◌, min, List, [], ◌∷◌, length, take, drop}
+use Rattle.std.specs.Prelude.{◌^◌, ◌≤◌, length, take, drop}
 use Rattle.std.proofs.Common.{arith, length-take, length-drop}
 use Rattle.words.specs.declared.Mark.TheVariants.{Spent}
 use Rattle.words.specs.declared.tape.Tape.{Tape}

@@ -1,4 +1,4 @@
-use Rattle.std.proofs.Common.{◌≡◌, ℕ, ◌+◌, List, [], ◌∷◌, ◌++◌, get_or, take, sym, ap, ◌∙◌, subst, arith}
+use Rattle.std.proofs.Common.{ℕ, List, ◌++◌, get_or, take, sym, ap, ◌∙◌, subst, arith}
 use Rattle.challenge.proofs.absorb_residues.Goals as goal
 use Rattle.record.specs.Layout.{le4}
 use Rattle.shake.specs.Progress.{Absorbing}

@@ -1,4 +1,4 @@
-use Rattle.std.proofs.Common.{◌≡◌, ℕ, List, [], ◌++◌, length, replicate, sym, ap, ◌∙◌, subst, ap₂}
+use Rattle.std.proofs.Common.{◌≡◌, ℕ, List, [], ◌++◌, replicate, sym, ap, ◌∙◌, subst}
 use Rattle.challenge.proofs.challenge.Goals as goal
 use Rattle.challenge.proofs.Ternary.{challenge_proper, challenge_ternary}
 use Rattle.record.specs.Writing.{Ternary}

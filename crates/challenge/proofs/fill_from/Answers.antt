@@ -1,4 +1,4 @@
-use Rattle.std.proofs.Common.{◌≡◌, ℕ, ◌+◌, ◌-◌, ◌*◌, ◌%◌, ◌<◌, List, get_or, drop, set, sym, ap, ◌∙◌, subst, ap₂, arith, rules}
+use Rattle.std.proofs.Common.{◌≡◌, ℕ, ◌+◌, ◌*◌, ◌%◌, ◌<◌, List, get_or, drop, set, sym, ap, ◌∙◌, subst, ap₂, arith}
 use Rattle.challenge.proofs.Filling.{all_found, all_read, position-free, position-taken}
 use Rattle.challenge.proofs.fill_from.Goals as goal
 use Rattle.challenge.proofs.fill_from.Goals.{then-is_free, else-is_free}

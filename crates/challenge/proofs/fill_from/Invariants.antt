@@ -1,4 +1,4 @@
-use Rattle.std.proofs.Common.{◌≡◌, ℕ, ◌*◌, List, length, drop}
+use Rattle.std.proofs.Common.{◌≡◌, ℕ, ◌*◌, List, drop}
 use Rattle.challenge.proofs.fill_from.Given as goal
 use Rattle.challenge.specs.Challenge.{filled, stream}
 use Rattle.shake.specs.Progress.{Reading}

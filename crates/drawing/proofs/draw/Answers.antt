@@ -1,4 +1,4 @@
-use Rattle.std.proofs.Common.{◌≡◌, ℕ, ◌+◌, ◌*◌, ◌<◌, ◌≢◌, List, [], ◌∷◌, ◌++◌, length, take, sym, ap, ◌∙◌, subst, arith, rules, below_more}
+use Rattle.std.proofs.Common.{◌≡◌, ℕ, ◌*◌, ◌<◌, ◌≢◌, List, [], length, take, sym, ap, ◌∙◌, subst, arith, below_more}
 use Rattle.refusal.specs.declared.fault.Coefficient.{Coefficient}
 use Rattle.refusal.specs.declared.fault.Step.TheVariants.{Conversion}
 use Rattle.steps.specs.declared.Ended.TheVariants.{Masks}
@@ -8,7 +8,7 @@ use Rattle.polys.specs.Area.{shares_of, values, recombined}
 use Rattle.polys.proofs.Places.{polynomial-inside, values-long, area-within}
 use Rattle.plain.specs.Nonces.{candidate, coefficient}
 use Rattle.plain.specs.Run.{at}
-use Rattle.drawing.specs.Resume.{Subject, Stops}
+use Rattle.drawing.specs.Resume.{Stops}
 use Rattle.drawing.specs.Drawing.{Drawing, ended_by}
 use Rattle.drawing.proofs.Resuming.{drawing-none, drawing-refused, drawing-accepted, drawing-stops, short-of-conversion}
 use Rattle.drawing.proofs.Candidates.{values_none, values_more, judged-none, judged-some, tried_stops}

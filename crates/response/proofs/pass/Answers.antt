@@ -1,7 +1,6 @@
 use Rattle.std.proofs.Common.{ℕ, sym, subst, arith, rules}
 use Rattle.std.proofs.lemmas.Result.{err_from_is_err_and}
 use Rattle.linear.proofs.Sharewise.{word_public}
-use Rattle.params.specs.Params.{reach}
 use Rattle.shares.specs.Groups.{residue_rule}
 use Rattle.shares.specs.Rule.{Within}
 use Rattle.polys.proofs.Places.{polynomial-inside, value-below}

@@ -1,6 +1,6 @@
-use Rattle.std.proofs.Common.{◌≡◌, ℕ, ◌+◌, ◌*◌, ◌%◌, ◌<◌, ◌≤◌, List, length, get_or, set, sym, refl, ap, ◌∙◌, mod-lt, mul_assoc, mul_comm, add-mul, arith, rules}
+use Rattle.std.proofs.Common.{◌≡◌, ℕ, ◌+◌, ◌*◌, ◌%◌, ◌<◌, List, length, get_or, set, ap, ◌∙◌, mod-lt, mul_assoc, mul_comm, add-mul, arith, rules}
 use lib.Bits.{bit_and}
-use Rattle.words.proofs.Spendings.{spent_as, spent_then, short_then, short_of, spends_then, spends_as, spends_so}
+use Rattle.words.proofs.Spendings.{spent_then, short_then, short_of, spends_then, spends_as, spends_so}
 use Rattle.shares.specs.Groups.{residue_rule, word_of, residue_of}
 use Rattle.shares.specs.Lawful.{residue_laws}
 use Rattle.shares.specs.Refresh.{pairs}

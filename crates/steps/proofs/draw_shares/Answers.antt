@@ -1,4 +1,4 @@
-use Rattle.std.proofs.Common.{◌≡◌, ℕ, ◌+◌, ◌<◌, ◌≤◌, ◌≢◌, length, get_or, sym, ◌∙◌, arith, length-set, get_or-set_other, get_or-set_same, rules, below_more}
+use Rattle.std.proofs.Common.{◌≡◌, ◌<◌, ◌≢◌, length, sym, ◌∙◌, arith, length-set, get_or-set_other, get_or-set_same, rules, below_more}
 use lib.ListN.{length-replicate}
 use Rattle.words.proofs.Spendings.{spent_none, spent_as, spent_then, spent_one, short_one, short_then, short_of}
 use Rattle.steps.proofs.Drawing.{first_left, first_words}

@@ -1,4 +1,4 @@
-use Rattle.std.proofs.Common.{◌≡◌, ℕ, ◌*◌, ◌≤◌, ◌≢◌, sym, ap, ◌∙◌, arith, rules}
+use Rattle.std.proofs.Common.{◌≡◌, ℕ, ◌*◌, sym, ap, ◌∙◌, arith, rules}
 use Rattle.words.proofs.Spendings.{spent_as, spent_then, short_then, short_of}
 use Rattle.shares.specs.Groups.{word_of}
 use Rattle.shares.specs.Refresh.{pairs}

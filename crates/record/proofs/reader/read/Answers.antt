@@ -1,16 +1,15 @@
-use Rattle.std.proofs.Common.{◌≡◌, ℕ, ◌+◌, ◌-◌, ◌*◌, ◌<◌, ◌≤◌, Bool, eqb, List, [], ◌∷◌, length, take, drop, ℤ, Some, None, Option, sym, refl, ap, ◌∙◌, arith, length-drop}
+use Rattle.std.proofs.Common.{◌≡◌, ℕ, ◌+◌, ◌-◌, ◌*◌, Bool, eqb, List, [], ◌∷◌, length, take, drop, Some, None, sym, ap, ◌∙◌, arith, length-drop}
 use Rattle.std.proofs.lemmas.Bool.Decides.{nat_tests}
 use Rattle.params.proofs.Facts.{n_quarters}
 use Rattle.params.specs.Params.{Params}
 use Rattle.refusal.specs.declared.Refusal.TheVariants.{OutOfReach, UnusedCode}
-use Rattle.refusal.specs.declared.Refusal.{Refusal}
 use Rattle.std.proofs.lemmas.List.{drop-drop, get_or-drop}
 use Rattle.std.proofs.lemmas.Result.{err_from_is_err_and}
 use Rattle.record.proofs.Hits.{hits, hits_two, passes}
 use Rattle.record.proofs.Rewriting.{written_again}
 use Rattle.record.proofs.reader.read.Goals as goal
 use Rattle.record.specs.Layout.{size, kind, num2, num4, z_of, unpacked, z_part, c_part}
-use Rattle.refusal.specs.Tests.{at_index, first_hit}
+use Rattle.refusal.specs.Tests.{at_index}
 use Rattle.record.specs.Reading.{far, size_test, kind_test, reach_test, code_test}
 use Rattle.search.specs.First.{first_at}
 

@@ -1,5 +1,5 @@
 use borrow.Rule.Slice.PartMut.{post_of}
-use Rattle.std.proofs.Common.{◌≡◌, ℕ, ◌+◌, ◌-◌, ◌*◌, Bool, true, ◌&&◌, eqb, List, ◌++◌, map, length, None, Ok, Err, sym, ap, ◌∙◌, subst, arith}
+use Rattle.std.proofs.Common.{◌≡◌, ℕ, ◌-◌, ◌*◌, true, ◌&&◌, eqb, List, ◌++◌, map, length, None, Ok, Err, sym, ap, ◌∙◌, subst, arith}
 use Rattle.params.proofs.Facts.{n_quarters}
 use Rattle.refusal.specs.declared.Refusal.TheVariants.{AreaSize}
 use Rattle.std.proofs.lemmas.List.{append_assoc, length-take, length-drop, take_at}

@@ -1,4 +1,4 @@
-use Rattle.std.proofs.Common.{◌≡◌, ℕ, ◌+◌, ◌-◌, List, ◌++◌, length, sym, refl, ap, ◌∙◌, subst, arith, rules}
+use Rattle.std.proofs.Common.{◌≡◌, ◌+◌, ◌-◌, ◌++◌, length, sym, refl, ap, ◌∙◌, arith, rules}
 use Rattle.words.proofs.Spendings.{spent_as, short_of}
 use Rattle.shares.specs.Groups.{word_of}
 use Rattle.shares.specs.Refresh.{pairs, rows}

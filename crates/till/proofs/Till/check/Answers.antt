@@ -1,5 +1,5 @@
-use Rattle.std.proofs.Common.{◌≡◌, ℕ, ◌*◌, Bool, true, false, List, length, Some, Ok, Err, Option, Result, sym, refl, ap, ◌∙◌}
-use Rattle.params.specs.Params.{Params, Sound}
+use Rattle.std.proofs.Common.{◌≡◌, ℕ, Bool, List, Some, Ok, Err, Result, sym, refl, ap, ◌∙◌}
+use Rattle.params.specs.Params.{Params}
 use Rattle.record.specs.Layout.{Content, decode}
 use Rattle.record.specs.declared.view.Record.{Record}
 use Rattle.refusal.specs.declared.Refusal.TheVariants.{OtherChallenge, Stale}
@@ -8,7 +8,7 @@ use Rattle.std.proofs.lemmas.Result.{err_from_is_err_and}
 use Rattle.std.specs.Str.{bytes_eq}
 use Rattle.till.proofs.Accepting.{accepts-ok, challenge-refused, content_is, counter-refused, key-refused, length-c_part, length-digest, length-z-part, ok-accepts, payment_is, record-refused, refused, taken, unchanged}
 use Rattle.till.proofs.Till.check.Goals as goal
-use Rattle.till.specs.Verdict.{above, verdict}
+use Rattle.till.specs.Verdict.{above}
 use Rattle.till.specs.Verification.{answering, content, expected}
 use Rattle.till.specs.declared.payment.Payment.{Payment}
 

@@ -1,4 +1,4 @@
-use Rattle.std.proofs.Common.{◌≡◌, ◌*◌, length, arith, rules}
+use Rattle.std.proofs.Common.{◌≡◌, ◌*◌, length, rules}
 use Rattle.till.proofs.Parts.{answering_is, back-half, challenge_polynomial, front-half, z_residues}
 use Rattle.till.proofs.verify.answers.Goals as goal
 

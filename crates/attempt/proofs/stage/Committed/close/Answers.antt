@@ -1,4 +1,4 @@
-use Rattle.std.proofs.Common.{◌≡◌, true, false, map, sym, refl, ap, ◌∙◌, inl, inr, arith}
+use Rattle.std.proofs.Common.{map, sym, ap, ◌∙◌, inl, inr, arith}
 use Rattle.record.specs.Reading.{all_near}
 use Rattle.ring.specs.Ring.{centre}
 use Rattle.words.proofs.Spendings.{short_of, short_then, spent_then}

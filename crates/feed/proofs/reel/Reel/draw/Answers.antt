@@ -1,4 +1,4 @@
-use Rattle.std.proofs.Common.{ℕ, ◌+◌, ◌<◌, ◌≤◌, ◌∷◌, length, drop, vec_items, sym, refl, ap, ◌∙◌, arith}
+use Rattle.std.proofs.Common.{ℕ, ◌+◌, ◌<◌, ◌∷◌, length, drop, vec_items, sym, refl, ap, ◌∙◌, arith}
 use Rattle.feed.proofs.reel.Reel.draw.Goals as goal
 use Rattle.std.proofs.lemmas.List.{drop_all, drop_more, get_or_read}
 

@@ -1,4 +1,3 @@
-use Rattle.std.proofs.Common.{◌≡◌}
 use Rattle.words.proofs.Checks.{steady_from_start}
 use Rattle.words.proofs.health.Health.new.Goals as goal
 

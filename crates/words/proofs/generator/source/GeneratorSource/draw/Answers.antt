@@ -1,4 +1,4 @@
-use Rattle.std.proofs.Common.{◌≡◌, ◌+◌, ◌-◌, ◌*◌, ◌∷◌, sym, refl, ap, ◌∙◌, arith}
+use Rattle.std.proofs.Common.{◌+◌, ◌-◌, ◌*◌, ◌∷◌, sym, refl, ap, ◌∙◌, arith}
 use Rattle.words.specs.Generators.{stretched}
 use Rattle.words.proofs.Streams.{stretched_more}
 use Rattle.words.proofs.generator.source.GeneratorSource.draw.Goals as goal
