@@ -1,7 +1,7 @@
 // A word source that is put together at run time: a tape of its own words or a generator, under any number of health checks.
 #![tactic(auto)]
 
-ghost use Rattle.std.specs.Prelude.{◌≡◌, ◌^◌, ◌<◌, ◌≤◌, [], vec_len, MatchResult};
+ghost use Rattle.std.specs.Prelude.{◌≡◌, ◌^◌, ◌<◌, ◌≤◌, [], vec_len, IfOk, MatchResult};
 ghost use Rattle.feed.specs.Feed.{feed_few, feed_flow, reel_flow};
 ghost use Rattle.words.specs.Flow.{Drawn, from};
 ghost use Rattle.words.specs.Generators.{generator_flow, stretched};
@@ -65,7 +65,16 @@ impl Feed {
         Ok(Feed::Stretched(Generator::new(seed, count)?))
     }
 
-    // Puts a health check over the feed as it stands.
+    // A health check over the feed as it stands.
+    pub fn checked(self, heap: Global, cutoff: Cutoff) -> Result<Feed, AllocError>
+        ensures { IfOk result (λ f. Steady cutoff.value (feed_flow self) (feed_flow f)) }
+    {
+        let mut feed = self;
+        feed.put_check(heap, cutoff)?;
+        Ok(feed)
+    }
+
+    // The same in place.
     pub fn put_check(&mut self, heap: Global, cutoff: Cutoff) -> Result<(), AllocError>
         ensures { MatchResult result (λ _. Steady cutoff.value (feed_flow self.old) (feed_flow self.new)) (λ _. self.new ≡ self.old) }
     {

@@ -1,7 +1,7 @@
 // A scenario from standard input, carried out line by line. What it prints is tested, not proved.
 #![tactic(auto)]
 
-use answers::{Answer, Told};
+use answers::{Answer, Listed, Told};
 use script::{Action, Command, Unread, parse};
 use std::alloc::{AllocError, Global};
 use std::io;
@@ -25,8 +25,8 @@ fn carry_out<W: Write>(
     action: Action,
 ) -> io::Result<bool> {
     match action {
-        Action::WordsOfA(words) => world.set_a(words)?,
-        Action::WordsOfT(words) => world.set_t(heap, words.as_slice())?,
+        Action::WordsOfA(words) => world.set_a(words),
+        Action::WordsOfT(words) => world.set_t(words),
         Action::Secret(secret) => world.set_secret(secret),
         Action::Shares(shares) => world.set_shares(heap, shares)?,
         Action::Fill { stream, supply } => {
@@ -34,15 +34,19 @@ fn carry_out<W: Write>(
             writeln!(out, "{answer}")?;
         }
         Action::Load => {
-            let answer = world.load();
+            let answer = world.load(heap)?;
             writeln!(out, "{answer}")?;
         }
         Action::Work(words) => world.set_work(words),
         Action::Room(bytes) => world.set_room(bytes),
         Action::Poke { area, index, value } => return Ok(world.poke(area, index, value)),
         Action::Show(area) => {
-            let words = world.show(area);
-            writeln!(out, "{words}")?;
+            let words = world.show(heap, area)?;
+            let listed = Listed {
+                area,
+                words: words.as_slice(),
+            };
+            writeln!(out, "{listed}")?;
         }
         Action::NewTill(last) => world.new_till(heap, last)?,
         Action::Once(call) => {

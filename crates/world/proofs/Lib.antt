@@ -1,4 +1,3 @@
-mod Lent
+mod Checks
 mod Loadings
-mod Parts
 mod Performing

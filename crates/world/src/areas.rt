@@ -1,8 +1,7 @@
 // Words of areas.
-ghost use Rattle.std.specs.Prelude.{◌≡◌, ◌*◌, ◌≤◌, length, replicate, IfOk, MatchResult, nat_lt, slice_set};
-ghost use Rattle.world.specs.Areas.{HasParts, a_of, lent, public_words, t_of};
+ghost use Rattle.std.specs.Prelude.{◌≡◌, ◌+◌, ◌++◌, length, take, drop, replicate, IfOk, nat_lt, slice_set};
+ghost use Rattle.world.specs.Areas.{lent};
 
-use crate::area::PublicArea;
 use std::alloc::{AllocError, Global};
 
 pub(crate) fn zeros(heap: Global, count: usize) -> Result<Vec<u32>, AllocError>
@@ -37,45 +36,22 @@ pub(crate) fn poke(words: &mut [u32], index: usize, value: u32) -> bool
     false
 }
 
-impl PublicArea {
-    // n zeros for a, and n for t.
-    pub(crate) fn new(heap: Global, n: usize) -> Result<PublicArea, AllocError>
-        requires { n ≤ 1024 }
-        ensures { IfOk result (HasParts (replicate n 0) (replicate n 0)) }
-    {
-        let words = zeros(heap, 2 * n)?;
-        Ok(PublicArea { words, split: n })
-    }
+// The words of a, and then those of t, in one piece.
+pub(crate) fn joined(heap: Global, a: &[u32], t: &[u32]) -> Result<Vec<u32>, AllocError>
+    ensures { IfOk result (λ v. v.items ≡ a.now ++ t.now) }
+{
+    let mut words = Vec::from_slice(heap, a)?;
+    words.extend_from_slice(t)?;
+    Ok(words)
+}
 
-    pub(crate) fn as_slice(&self) -> &[u32]
-        ensures { result.now ≡ public_words self.now }
-    {
-        self.words.as_slice()
-    }
-
-    pub(crate) fn set_a(&mut self, words: Vec<u32>) -> Result<(), AllocError>
-        ensures { MatchResult result (λ _. HasParts words.items (t_of self.old) self.new) (λ _. self.new ≡ self.old) }
-    {
-        let split = words.len();
-        let mut joined = words;
-        joined.extend_from_slice(&self.words.as_slice()[self.split..])?;
-        *self = PublicArea {
-            words: joined,
-            split,
-        };
-        Ok(())
-    }
-
-    pub(crate) fn set_t(&mut self, heap: Global, words: &[u32]) -> Result<(), AllocError>
-        ensures { MatchResult result (λ _. HasParts (a_of self.old) words.now self.new) (λ _. self.new ≡ self.old) }
-    {
-        let split = self.split;
-        let mut joined = Vec::from_slice(heap, &self.words.as_slice()[0..split])?;
-        joined.extend_from_slice(words)?;
-        *self = PublicArea {
-            words: joined,
-            split,
-        };
-        Ok(())
-    }
+// The same taken apart again.
+pub(crate) fn part(words: &[u32], a: &mut [u32], t: &mut [u32])
+    requires { length words.now ≡ length a.old + length t.old }
+    ensures a { a.new ≡ take (length a.old) words.now }
+    ensures t { t.new ≡ drop (length a.old) words.now }
+{
+    let count = a.len();
+    a.copy_from_slice(&words[0..count]);
+    t.copy_from_slice(&words[count..]);
 }

@@ -1,7 +1,6 @@
 // What a scenario keeps, and what its lines do to it.
 #![tactic(auto)]
 
-mod area;
 mod areas;
 mod card_state;
 mod state;

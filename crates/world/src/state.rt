@@ -1,15 +1,13 @@
 // The state, and a method for each line.
-ghost use Rattle.std.specs.Prelude.{◌≡◌, length, IfOk, MatchResult, nat_lt};
-ghost use Rattle.world.specs.Areas.{HasParts, a_of, public_words, t_of};
+ghost use Rattle.std.specs.Prelude.{◌≡◌, length, set, IfOk, IsOk, MatchResult, nat_lt, vec_len};
 ghost use Rattle.world.specs.Cards.{Reshared, with_secret, with_sizes};
-ghost use Rattle.world.specs.State.{Called, CardLine, FillLine, Fresh, LoadLine, Pokes, Repeated, with_card, with_till, words_of};
+ghost use Rattle.world.specs.State.{CardLine, Called, CutShort, FillLine, Fresh, LoadLine, OfCheck, Pokes, Repeated, RepeatsChecks, public, with_a, with_card, with_t, with_till, words_of};
 ghost use Rattle.world.specs.Tills.{Made, params_of};
 
-use crate::area::PublicArea;
-use crate::areas::poke;
+use crate::areas::{joined, part, poke};
 use crate::card_state::{CardState, refill};
 use crate::till_state::{TillState, check};
-use answers::{Answer, Listed};
+use answers::Answer;
 use params::{ParamSet, SetI, SetS};
 use refusal::Area;
 use script::{Call, SetName, Shown, Stream, Supply};
@@ -27,7 +25,8 @@ fn degree(set: SetName) -> usize
 #[derive(Drop)]
 pub struct World {
     set: SetName,
-    public: PublicArea,
+    a: Vec<u32>,
+    t: Vec<u32>,
     card: CardState,
     till: Option<TillState>,
     // The last record made, no bytes if none was.
@@ -39,33 +38,48 @@ impl World {
     pub fn new(heap: Global, set: SetName) -> Result<World, AllocError>
         ensures { IfOk result (Fresh set) }
     {
-        let public = PublicArea::new(heap, degree(set))?;
+        let n = degree(set);
+        let a = vec![in heap; 0; n]?;
+        let t = vec![in heap; 0; n]?;
         let card = CardState::new(heap, set)?;
         Ok(World {
             set,
-            public,
+            a,
+            t,
             card,
             till: None,
             made: Vec::new(heap),
         })
     }
 
-    pub fn set_a(&mut self, words: Vec<u32>) -> Result<(), AllocError>
-        ensures words { MatchResult result (λ _. HasParts words.items (t_of self.old.public) self.new.public) (λ _. self.new.public ≡ self.old.public) }
-        ensures rest { self.new ≡ with_card self.old self.new.public self.old.card }
+    // The words of a, which begin the public area.
+    pub fn a(&self) -> &[u32]
+        ensures { result.now ≡ self.now.a.items }
     {
-        self.public.set_a(words)
+        self.a.as_slice()
     }
 
-    pub fn set_t(&mut self, heap: Global, words: &[u32]) -> Result<(), AllocError>
-        ensures words { MatchResult result (λ _. HasParts (a_of self.old.public) words.now self.new.public) (λ _. self.new.public ≡ self.old.public) }
-        ensures rest { self.new ≡ with_card self.old self.new.public self.old.card }
+    // The words of t, which end it.
+    pub fn t(&self) -> &[u32]
+        ensures { result.now ≡ self.now.t.items }
     {
-        self.public.set_t(heap, words)
+        self.t.as_slice()
+    }
+
+    pub fn set_a(&mut self, words: Vec<u32>)
+        ensures { self.new ≡ with_a self.old words }
+    {
+        self.a = words;
+    }
+
+    pub fn set_t(&mut self, words: Vec<u32>)
+        ensures { self.new ≡ with_t self.old words }
+    {
+        self.t = words;
     }
 
     pub fn set_secret(&mut self, secret: Vec<i8>)
-        ensures { self.new ≡ with_card self.old self.old.public (with_secret self.old.card secret) }
+        ensures { self.new ≡ with_card self.old (with_secret self.old.card secret) }
     {
         self.card.secret = secret;
     }
@@ -73,20 +87,20 @@ impl World {
     // Another share count: a new key area, and no card.
     pub fn set_shares(&mut self, heap: Global, shares: u8) -> Result<(), AllocError>
         ensures shares { MatchResult result (λ _. Reshared (params_of self.old.set) shares self.old.card self.new.card) (λ _. self.new.card ≡ self.old.card) }
-        ensures rest { self.new ≡ with_card self.old self.old.public self.new.card }
+        ensures rest { self.new ≡ with_card self.old self.new.card }
     {
         self.card.set_shares(heap, self.set, shares)
     }
 
     // The sizes of the areas that later signings are lent.
     pub fn set_work(&mut self, words: u32)
-        ensures { self.new ≡ with_card self.old self.old.public (with_sizes self.old.card words self.old.card.room) }
+        ensures { self.new ≡ with_card self.old (with_sizes self.old.card words self.old.card.room) }
     {
         self.card.work = words as usize;
     }
 
     pub fn set_room(&mut self, bytes: u32)
-        ensures { self.new ≡ with_card self.old self.old.public (with_sizes self.old.card self.old.card.work bytes) }
+        ensures { self.new ≡ with_card self.old (with_sizes self.old.card self.old.card.work bytes) }
     {
         self.card.room = bytes as usize;
     }
@@ -113,10 +127,37 @@ impl World {
     }
 
     // Loads a card.
-    pub fn load(&mut self) -> Answer
-        ensures { LoadLine self.old result self.new }
+    pub fn load(&mut self, heap: Global) -> Result<Answer, AllocError>
+        ensures { MatchResult result (λ a. LoadLine self.old a self.new) (λ _. self.new ≡ self.old) }
     {
-        Answer::Loaded(self.card.load(self.set, self.public.words.as_mut_slice()))
+        let mut public = joined(heap, self.a.as_slice(), self.t.as_slice())?;
+        let loaded = self.card.load(self.set, public.as_mut_slice());
+        part(
+            public.as_slice(),
+            self.a.as_mut_slice(),
+            self.t.as_mut_slice(),
+        );
+        Ok(Answer::Loaded(loaded))
+    }
+
+    // Writes a word of the public area, or says that it has no such word.
+    pub fn poke_public(&mut self, index: usize, value: u32) -> bool
+        ensures within { result ≡ nat_lt index (length (public self.old)) }
+        ensures public { public self.new ≡ set (public self.old) index value }
+        ensures rest { (self.new.set ≡ self.old.set) × ((self.new.till ≡ self.old.till) × (self.new.made ≡ self.old.made)) }
+        ensures card { self.new.card ≡ self.old.card }
+        ensures split { vec_len self.new.a ≡ vec_len self.old.a }
+    {
+        let count = self.a.len();
+        if index < count {
+            self.a[index] = value;
+            return true;
+        }
+        if index - count < self.t.len() {
+            self.t[index - count] = value;
+            return true;
+        }
+        false
     }
 
     // Writes a word of an area, or says that it has no such word.
@@ -125,29 +166,28 @@ impl World {
         ensures after { Pokes area index value self.old self.new }
     {
         match area {
-            Area::Public => poke(self.public.words.as_mut_slice(), index, value),
+            Area::Public => self.poke_public(index, value),
             Area::Key => poke(self.card.key.as_mut_slice(), index, value),
         }
     }
 
-    // The words of an area.
-    pub fn show(&self, area: Area) -> Listed<'_>
-        ensures area { result.area ≡ area }
-        ensures words { result.words.now ≡ words_of self.now area }
+    // A copy of the words of an area.
+    pub fn show(&self, heap: Global, area: Area) -> Result<Vec<u32>, AllocError>
+        ensures { IfOk result (λ v. v.items ≡ words_of self.now area) }
     {
-        let words = match area {
-            Area::Public => self.public.words.as_slice(),
-            Area::Key => self.card.key.as_slice(),
-        };
-        Listed { area, words }
+        match area {
+            Area::Public => joined(heap, self.a.as_slice(), self.t.as_slice()),
+            Area::Key => Vec::from_slice(heap, self.card.key.as_slice()),
+        }
     }
 
     // A new till with a copy of the public area.
     pub fn new_till(&mut self, heap: Global, last: Option<u16>) -> Result<(), AllocError>
-        ensures till { MatchResult result (λ _. Made (public_words self.old.public) last self.new.till) (λ _. self.new.till ≡ self.old.till) }
+        ensures till { MatchResult result (λ _. Made (public self.old) last self.new.till) (λ _. self.new.till ≡ self.old.till) }
         ensures rest { self.new ≡ with_till self.old self.new.till }
     {
-        let key = Vec::from_slice(heap, self.public.words.as_slice())?;
+        let mut key = Vec::from_slice(heap, self.a.as_slice())?;
+        key.extend_from_slice(self.t.as_slice())?;
         self.till = Some(TillState { key, last });
         Ok(())
     }
@@ -162,18 +202,15 @@ impl World {
     fn card_call(&mut self, heap: Global, call: life::Call) -> Result<Answer, AllocError>
         ensures { MatchResult result (λ a. CardLine self.old call a self.new) (λ _. self.new ≡ self.old) }
     {
-        self.card.call(
-            heap,
-            self.set,
-            &call,
-            self.public.as_slice(),
-            &mut self.made,
-        )
+        let public = joined(heap, self.a.as_slice(), self.t.as_slice())?;
+        self.card
+            .call(heap, self.set, &call, public.as_slice(), &mut self.made)
     }
 
-    // Makes a call once.
+    // Makes a call once. A check wants no memory.
     pub fn call(&mut self, heap: Global, call: &Call) -> Result<Answer, AllocError>
-        ensures { MatchResult result (λ a. Called self.old call.now a self.new) (λ _. self.new ≡ self.old) }
+        ensures called { MatchResult result (λ a. Called self.old call.now a self.new) (λ _. self.new ≡ self.old) }
+        ensures checked { OfCheck call.now → IsOk result }
     {
         match call {
             Call::Check(Shown::Bytes(bytes)) => {
@@ -199,7 +236,8 @@ impl World {
         times: u32,
         call: &Call,
     ) -> Result<(u32, Option<Answer>), AllocError>
-        ensures { IfOk result (λ x. Repeated self.old call.now times x.0 x.1 self.new) }
+        ensures repeated { MatchResult result (λ x. Repeated self.old call.now times x.0 x.1 self.new) (λ _. CutShort self.old call.now times self.new) }
+        ensures checks { RepeatsChecks self.old call.now times result self.new }
     {
         let mut done = 0;
         let mut last = None;

@@ -1,17 +1,9 @@
-use Rattle.std.proofs.Common.{◌≡◌, ℕ, ◌+◌, ◌≤◌, Bool, true, false, cond, Some, sym, refl, ap, ◌∙◌, subst, arith}
+use Rattle.std.proofs.Common.{◌≡◌, ℕ, ◌+◌, cond, Some, sym, ap, ◌∙◌, subst, arith}
 use mir.Val.{bool_byte}
-use Rattle.world.specs.State.{Repeated, none, more}
 use Rattle.answers.specs.Texts.{is_ok}
+use Rattle.world.specs.State.{Repeated, none, more}
+use Rattle.world.proofs.Checks.{bit, bit_le, repeats_done}
 use Rattle.world.proofs.state.World.repeat.Goals as goal
-
--- a test as a number
-bit : (b : Bool) → bool_byte b ≡ cond b 1 0
-bit true = refl
-bit false = refl
-
-bit_le : (b : Bool) → bool_byte b ≤ 1
-bit_le true = omega arith
-bit_le false = omega arith
 
 pub calls-init : goal.calls-init
 calls-init c = (omega arith, none)
@@ -20,8 +12,14 @@ pub calls-preserved : goal.calls-preserved
 calls-preserved c =
     let inv = c.calls.invariant in
     let answer = c.in_ok-answer.answer in
-    let once = more inv.1 c.in_ok-answer.ensures in
+    let once = more inv.1 c.in_ok-answer.ensures.called in
     let one = c.from-done.ensures ∙ ap bool_byte c.is_ok.ensures ∙ bit (is_ok answer) in (
       omega (arith, c.from-done.ensures, bit_le c.is_ok.result),
       subst (λ (n : ℕ). Repeated c.args.self.now c.args.call.now (c.calls._turn + 1) (c.calls.done + n) (Some answer) c.call.new.self) (sym one) once,
     )
+
+pub returns-clause-checks : goal.returns-clause-checks
+returns-clause-checks c =
+    let all : c.calls._turn ≡ c.args.times = omega (arith, c.calls-test.false, c.calls.auto._turn-end) in
+    repeats_done c.args.self.now c.args.call.now c.args.times c.calls.done c.calls.last c.calls.self
+    (subst (λ (n : ℕ). Repeated c.args.self.now c.args.call.now n c.calls.done c.calls.last c.calls.self) all c.calls.invariant.1)
