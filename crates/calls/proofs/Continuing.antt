@@ -1,6 +1,6 @@
 -- A call that does what its definition says is the next event of the card's life.
 use Rattle.std.proofs.Common.{◌≡◌, ℕ, zero, suc, ◌+◌, ◌*◌, ◌<◌, Bool, true, false, cond, leb, List, [], ◌∷◌, ◌++◌, length, get_or, take, drop, Some, None, Ok, Err, Option, Result, sym, refl, ap, ◌∙◌, subst, ap₂, arith}
-use Rattle.std.specs.List.{AllByRecursion as All}
+use Rattle.std.specs.List.{AllByRecursion}
 use Rattle.std.proofs.ByRecursion.{All-push}
 use Rattle.std.proofs.lemmas.List.{take_at, drop_at}
 use Rattle.std.proofs.lemmas.Bool.{lt-leb}
@@ -41,7 +41,7 @@ lived_push : (made : MadeCard) (c : CardState) (events : List Event) (e : Event)
 lived_push made c [] e = refl
 lived_push made c (d ∷ events) e = lived_push made (moved made c d) events e
 
-promises_of : (made : MadeCard) → SoundCard made → (n f : Flow) (events : List Event) → All (λ (e : Event). Digested e.call) events → Promises made n f events
+promises_of : (made : MadeCard) → SoundCard made → (n f : Flow) (events : List Event) → AllByRecursion (λ (e : Event). Digested e.call) events → Promises made n f events
 promises_of made sound n f events digests = record {
   newer = newer_law made sound n f events digests;
   places = places_law made sound n f events;

@@ -1,6 +1,6 @@
 -- A call in the middle of a card's life: the life goes on, and its promises hold.
 use Rattle.std.specs.Prelude.{◌≡◌, ℕ, true, List, [], ◌∷◌, ◌++◌, map, take, drop, ℤ}
-use Rattle.std.specs.List.{AllByRecursion as All}
+use Rattle.std.specs.List.{AllByRecursion}
 use Rattle.params.specs.Params.{Params}
 use Rattle.record.specs.Layout.{Content}
 use Rattle.words.specs.Flow.{Flow}
@@ -32,7 +32,7 @@ pub record OwnAreas (made : MadeCard) (x : Areas) : Type 0 where
 pub record Lives (made : MadeCard) (nonces masks : Flow) (events : List Event) (now : CardState) : Type 0 where
   pub sound : SoundCard made
   pub state : lived made (loaded nonces masks) events ≡ now
-  pub digests : All (λ (e : Event). Digested e.call) events
+  pub digests : AllByRecursion (λ (e : Event). Digested e.call) events
 
 -- the key of a secret beside the public polynomial a
 abbrev pub key_of : Params → (secret : List ℤ) (public : List ℕ) → Key
@@ -47,7 +47,7 @@ pub record Begins (s : Params) (m : ℕ) (secret : List ℤ) (public : List ℕ)
 -- all that it took before; each attempt has places of its own in the nonce list; a card with another number of shares, other masks and the
 -- same candidates for nonces tells the same until the masks of one end; and the records are numbered from 1 on
 pub record Promises (made : MadeCard) (nonces masks : Flow) (events : List Event) : Type 0 where
-  pub newer : All (λ (r : Content). (before : List (List ℕ)) → JudgedByCounter made r before) (records (life made (loaded nonces masks) events))
+  pub newer : AllByRecursion (λ (r : Content). (before : List (List ℕ)) → JudgedByCounter made r before) (records (life made (loaded nonces masks) events))
   pub places : OwnPlaces made nonces masks events
   pub alike : (m : ℕ) → SoundCard (with_shares m made) → (nonces' masks' : Flow) →
       candidates made.set made.shares nonces.words ≡ candidates made.set m nonces'.words → nonces.mark ≡ nonces'.mark → (j : ℕ) →

@@ -1,6 +1,6 @@
 -- A signing that follows the plain run, as the answer of a sign.
 use Rattle.std.proofs.Common.{◌≡◌, ℕ, ◌+◌, ◌*◌, ◌<◌, List, [], ◌∷◌, length, take, replicate, None, Ok, Err, Option, Result, sym, refl, ap, ◌∙◌, subst, ap₂}
-use Rattle.std.specs.List.{AllByRecursion as All}
+use Rattle.std.specs.List.{AllByRecursion}
 use Rattle.params.specs.Params.{Params, Sound}
 use Rattle.refusal.specs.declared.Refusal.{Refusal}
 use Rattle.refusal.specs.declared.fault.Counts.{Counts}
@@ -23,7 +23,7 @@ use Rattle.card.specs.Sign.{Ran, SignBy, answer_of, counter_after, outcome_in, r
 use Rattle.keys.proofs.Charges.{spent-taken}
 
 -- a record has the counter that its attempt was made for
-numbered : (s : Params) (key : Key) (m : ℕ) (digest : List ℕ) (counter : ℕ) (r : Content) (ts : List Attempt) → Fates (signed r) ts → All (λ (t : Attempt). ComesFrom s key digest counter (own_nonces s m t) t.fate) ts → r.counter ≡ counter
+numbered : (s : Params) (key : Key) (m : ℕ) (digest : List ℕ) (counter : ℕ) (r : Content) (ts : List Attempt) → Fates (signed r) ts → AllByRecursion (λ (t : Attempt). ComesFrom s key digest counter (own_nonces s m t) t.fate) ts → r.counter ≡ counter
 unfolding closed
 numbered s key m digest counter r [] f a = absurd f
 numbered s key m digest counter r (t ∷ []) f a = ap (λ (r : Content). r.counter) (subst (λ (fate : Fate). ComesFrom s key digest counter (own_nonces s m t) fate) f a.0).1

@@ -1,7 +1,7 @@
 -- A challenge is a polynomial whose coefficients are 0, 1 and −1.
 use Rattle.std.proofs.Common.{◌≡◌, ℕ, zero, suc, ◌<◌, true, false, cond, eqb, List, [], ◌∷◌, length, get_or, set, replicate, refl, ◌∙◌, inl, inr, arith, length-set}
 use lib.ListN.{length-replicate}
-use Rattle.std.specs.List.{AllByRecursion as All}
+use Rattle.std.specs.List.{AllByRecursion}
 use Rattle.std.proofs.ByRecursion.{All-set, All-get_or}
 use Rattle.params.specs.Params.{Params, Sound}
 use Rattle.record.specs.Writing.{Ternary}
@@ -13,7 +13,7 @@ use Rattle.challenge.specs.Challenge.{challenge, filled, message, place, stream,
 -- n coefficients of 0, 1 and −1
 record Small (s : Params) (c : List ℕ) : Type 0 where
   pub long : length c ≡ s.n
-  pub ternary : All (Ternary s) c
+  pub ternary : AllByRecursion (Ternary s) c
 
 unit_ternary : (s : Params) (sign : Sign) → Ternary s (unit s.p sign)
 unit_ternary s Plus = inr (inl refl)
@@ -35,7 +35,7 @@ filled_small s (suc wanted) (w ∷ words) c h =
       | false ↦ filled_small s (suc wanted) words c h
     ]
 
-zeros_ternary : (s : Params) (k : ℕ) → All (Ternary s) (replicate k 0)
+zeros_ternary : (s : Params) (k : ℕ) → AllByRecursion (Ternary s) (replicate k 0)
 zeros_ternary s zero = tt
 zeros_ternary s (suc k) = (inl refl, zeros_ternary s k)
 
@@ -46,7 +46,7 @@ small s r digest counter = filled_small s s.alpha (stream (message r digest coun
 pub challenge_long : (s : Params) (r digest : List ℕ) (counter : ℕ) → length (challenge s r digest counter) ≡ s.n
 challenge_long s r digest counter = (small s r digest counter).long
 
-pub challenge_ternary : (s : Params) (r digest : List ℕ) (counter : ℕ) → All (Ternary s) (challenge s r digest counter)
+pub challenge_ternary : (s : Params) (r digest : List ℕ) (counter : ℕ) → AllByRecursion (Ternary s) (challenge s r digest counter)
 challenge_ternary s r digest counter = (small s r digest counter).ternary
 
 below_p : (s : Params) → Sound s → (v : ℕ) → Ternary s v → v < s.p

@@ -7,7 +7,7 @@ ghost use Rattle.record.specs.Layout.{le4};
 ghost use Rattle.record.specs.Writing.{Ternary};
 ghost use Rattle.ring.specs.Laws.{Proper};
 ghost use Rattle.shake.specs.Progress.{Absorbing, Reading};
-ghost use Rattle.std.specs.List.{flat_map, AllByRecursion as All};
+ghost use Rattle.std.specs.List.{flat_map, AllByRecursion};
 
 use params::ParamSet;
 use shake::{Shake256, Squeezer};
@@ -78,7 +78,7 @@ pub fn challenge<S: ParamSet>(c: &mut [u32], r: &[u32], digest: &[u8], counter: 
     requires { length c.old ≡ S.params.n }
     ensures is { c.new ≡ challenge S.params r.now digest.now counter }
     ensures polynomial { Proper S.params.n S.params.p c.new }
-    ensures ternary { All (Ternary S.params) c.new }
+    ensures ternary { AllByRecursion (Ternary S.params) c.new }
 {
     let mut hasher = Shake256::new();
     absorb_residues(&mut hasher, r);

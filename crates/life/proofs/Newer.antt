@@ -1,6 +1,6 @@
 -- A till takes a card's record exactly when its counter is above all that it took before.
 use Rattle.std.proofs.Common.{◌≡◌, ℕ, ◌+◌, Bool, true, false, leb, List, [], ◌∷◌, length, None, Ok, Err, Option, sym, refl, ap, ◌∙◌, subst, arith}
-use Rattle.std.specs.List.{AllByRecursion as All}
+use Rattle.std.specs.List.{AllByRecursion}
 use Rattle.std.specs.Str.{bytes_eq}
 use Rattle.std.proofs.ByRecursion.{All-append, All-weaker}
 use Rattle.std.proofs.lemmas.Slice.Eq.{bytes_eq-Decides}
@@ -98,13 +98,13 @@ module _ (made : MadeCard) (card : SoundCard made) where
   Judged r = (before : List (List ℕ)) → JudgedByCounter made r before
 
   -- only a sign makes records, and its digest has 32 bytes
-  all-judged : (c : CardState) (call : Call) (fits : Bool) → Digested call → All Judged (record_of (answer_to made c call fits))
+  all-judged : (c : CardState) (call : Call) (fits : Bool) → Digested call → AllByRecursion Judged (record_of (answer_to made c call fits))
   all-judged c (Sign digest tries) fits d =
       All-weaker (Genuine made card digest (c.counter + 1)) Judged (judged digest (c.counter + 1) d) (record_of (answer_to made c (Sign digest tries) fits)) (turn made card c (Sign digest tries) fits).genuine
   all-judged c Remask fits d = tt
   all-judged c Report fits d = tt
 
-  lives-judged : (events : List Event) (c : CardState) → All (λ (e : Event). Digested e.call) events → All Judged (records (life.life made c events))
+  lives-judged : (events : List Event) (c : CardState) → AllByRecursion (λ (e : Event). Digested e.call) events → AllByRecursion Judged (records (life.life made c events))
   lives-judged [] c d = tt
   lives-judged (e ∷ events) c d =
       All-append Judged (record_of (life.answer made c e)) (records (life.life made (moved made c e) events)) (all-judged c e.call e.fits d.0) (lives-judged events (moved made c e) d.1)

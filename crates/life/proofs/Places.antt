@@ -1,7 +1,7 @@
 -- Each attempt's words stand at places of its own, and records are numbered.
 use Rattle.std.proofs.Common.{◌≡◌, ℕ, zero, suc, ◌+◌, ◌≤◌, List, [], ◌∷◌, ◌++◌, map, length, sym, refl, ap, ◌∙◌, ap₂, append_assoc, arith, length-append}
 use mathlib.Core.List.{map-append}
-use Rattle.std.specs.List.{flat_map, range_with_len, AllByRecursion as All}
+use Rattle.std.specs.List.{flat_map, range_with_len, AllByRecursion}
 use Rattle.std.proofs.ByRecursion.{All-append}
 use Rattle.record.specs.Layout.{Content}
 use Rattle.plain.specs.Run.{Attempt}
@@ -35,15 +35,15 @@ module _ (made : MadeCard) (card : SoundCard made) where
   abbrev Own-try : Tried → Type 0
   Own-try t = Own made card t.digest t.counter t.attempt
 
-  own-tries : (digest : List ℕ) (counter : ℕ) (ts : List Attempt) → All (Own made card digest counter) ts → All Own-try (map (with_call digest counter) ts)
+  own-tries : (digest : List ℕ) (counter : ℕ) (ts : List Attempt) → AllByRecursion (Own made card digest counter) ts → AllByRecursion Own-try (map (with_call digest counter) ts)
   own-tries digest counter [] h = tt
   own-tries digest counter (t ∷ ts) h = (h.0, own-tries digest counter ts h.1)
 
   -- a life from any state
   record Accounted (c : CardState) (events : List Event) : Type 0 where
     pub in_order : c.nonces.words ≡ tried_words (attempts made c events) ++ (lived made c events).nonces.words
-    pub own : All Own-try (attempts made c events)
-    pub tallied : All Tallied (life made c events)
+    pub own : AllByRecursion Own-try (attempts made c events)
+    pub tallied : AllByRecursion Tallied (life made c events)
     pub numbers : map (λ (r : Content). r.counter) (records (life made c events)) ≡ range_with_len (c.counter + 1) (length (records (life made c events)))
     pub counter : (lived made c events).counter ≡ c.counter + length (records (life made c events))
     pub most : c.counter ≤ 65535 → (lived made c events).counter ≤ 65535

@@ -1,6 +1,6 @@
 -- A till's last counter stands for all that it accepted.
 use Rattle.std.proofs.Common.{◌≡◌, ℕ, ◌<◌, true, List, [], ◌∷◌, ◌++◌, Some, None, Ok, Err, Option, Result, refl, arith}
-use Rattle.std.specs.List.{AllByRecursion as All}
+use Rattle.std.specs.List.{AllByRecursion}
 use Rattle.std.proofs.lemmas.Bool.{ltb-true, lt-ltb}
 use Rattle.params.specs.Params.{Params, Sound}
 use Rattle.refusal.specs.declared.Refusal.{Refusal}
@@ -28,7 +28,7 @@ module _ (s : Params) (sound : Sound s) (key : List ℕ) (c : ℕ) where
   fresh last bytes = fresh_by last (first_hit (tests s key last bytes)) (payment s bytes) (λ none. (none-accepts s sound key last bytes none).2)
 
   abbrev Below : List Payment → Type 0
-  Below = All (λ (paid : Payment). paid.counter < c)
+  Below = AllByRecursion (λ (paid : Payment). paid.counter < c)
 
   -- c is above the last counter, so it is above all that were accepted
   abbrev Down : Option ℕ → List (List ℕ) → Type 0
@@ -46,7 +46,7 @@ module _ (s : Params) (sound : Sound s) (key : List ℕ) (c : ℕ) where
   down-from [] last h = (h, tt)
   down-from (bytes ∷ more) last h = down_by last (verdict s key last bytes) more (fresh last bytes) (down-from more) h
 
-  pub down : (shown : List (List ℕ)) → above (last_shown s key None shown) c ≡ true → All (λ (paid : Payment). paid.counter < c) (accepted s key None shown)
+  pub down : (shown : List (List ℕ)) → above (last_shown s key None shown) c ≡ true → AllByRecursion (λ (paid : Payment). paid.counter < c) (accepted s key None shown)
   down shown h = (down-from shown None h).1
 
   -- and back
@@ -62,5 +62,5 @@ module _ (s : Params) (sound : Sound s) (key : List ℕ) (c : ℕ) where
   up_from [] last h q = h
   up_from (bytes ∷ more) last h q = up_by last (verdict s key last bytes) more (up_from more) h q
 
-  pub up : (shown : List (List ℕ)) → All (λ (paid : Payment). paid.counter < c) (accepted s key None shown) → above (last_shown s key None shown) c ≡ true
+  pub up : (shown : List (List ℕ)) → AllByRecursion (λ (paid : Payment). paid.counter < c) (accepted s key None shown) → above (last_shown s key None shown) c ≡ true
   up shown q = up_from shown None refl q

@@ -1,6 +1,6 @@
 -- One call of a life: what its answer accounts for, and what it leaves.
 use Rattle.std.proofs.Common.{◌≡◌, ℕ, ◌+◌, ◌*◌, ◌<◌, ◌≤◌, Bool, true, ◌&&◌, ltb, leb, List, [], ◌∷◌, ◌++◌, map, length, Some, None, Option, refl, ap, subst, arith}
-use Rattle.std.specs.List.{range_with_len, AllByRecursion as All}
+use Rattle.std.specs.List.{range_with_len, AllByRecursion}
 use Rattle.std.proofs.lemmas.Bool.{and_parts, leb-true, ltb-true}
 use Rattle.refusal.specs.declared.Refusal.{Refusal}
 use Rattle.refusal.specs.declared.Refusal.TheVariants.{AreaSize, Tries, CounterEnd}
@@ -40,15 +40,15 @@ module _ (made : MadeCard) (card : SoundCard made) where
   -- what the answer x to a call accounts for, between the states c and c'
   pub record Turn (c : CardState) (digest : List ℕ) (x : Answer) (c' : CardState) : Type 0 where
     pub in_order : c.nonces.words ≡ words_of (attempts_in x) ++ c'.nonces.words
-    pub own : All (Own digest (c.counter + 1)) (attempts_in x)
+    pub own : AllByRecursion (Own digest (c.counter + 1)) (attempts_in x)
     pub tallied : Tallied x
-    pub genuine : All (Genuine digest (c.counter + 1)) (record_of x)
+    pub genuine : AllByRecursion (Genuine digest (c.counter + 1)) (record_of x)
     pub numbers : map (λ (r : Content). r.counter) (record_of x) ≡ range_with_len (c.counter + 1) (length (record_of x))
     pub counter : c'.counter ≡ c.counter + length (record_of x)
     pub most : c.counter ≤ 65535 → c'.counter ≤ 65535
 
   -- the record is the last attempt's
-  last-attempt : (digest : List ℕ) (counter : ℕ) → counter < 65536 → (r : Content) (ts : List Attempt) → Fates (signed r) ts → All (Own digest counter) ts → Genuine digest counter r
+  last-attempt : (digest : List ℕ) (counter : ℕ) → counter < 65536 → (r : Content) (ts : List Attempt) → Fates (signed r) ts → AllByRecursion (Own digest counter) ts → Genuine digest counter r
   last-attempt digest counter small r [] f o = absurd f
   last-attempt digest counter small r (t ∷ []) f o =
       let came : ComesFrom made.set made.key digest counter (own_nonces made.set made.shares t) (passed r) =
@@ -62,12 +62,12 @@ module _ (made : MadeCard) (card : SoundCard made) where
 
   -- what the end of a run comes to
   record Ended (digest : List ℕ) (counter : ℕ) (o : Outcome) : Type 0 where
-    pub genuine : All (Genuine digest (counter + 1)) (record_in o)
+    pub genuine : AllByRecursion (Genuine digest (counter + 1)) (record_in o)
     pub numbers : map (λ (r : Content). r.counter) (record_in o) ≡ range_with_len (counter + 1) (length (record_in o))
     pub counter-is : counter_after o counter ≡ counter + length (record_in o)
     pub most : counter_after o counter ≤ 65535
 
-  ended : (digest : List ℕ) (counter : ℕ) → counter < 65535 → (o : Outcome) (ts : List Attempt) → Fates o ts → All (Own digest (counter + 1)) ts → Ended digest counter o
+  ended : (digest : List ℕ) (counter : ℕ) → counter < 65535 → (o : Outcome) (ts : List Attempt) → Fates o ts → AllByRecursion (Own digest (counter + 1)) ts → Ended digest counter o
   ended digest counter low (signed r) ts f own =
       let g = last-attempt digest (counter + 1) (omega arith) r ts f own in
       record { genuine = (g, tt); numbers = ap (λ (k : ℕ). k ∷ []) (counter-of digest (counter + 1) r g); counter-is = refl; most = omega arith }

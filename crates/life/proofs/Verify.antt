@@ -1,6 +1,6 @@
 -- A record that plain signing made, and whose check passed, is read back and verifies.
 use Rattle.std.proofs.Common.{◌≡◌, ℕ, ◌*◌, ◌<◌, ◌≤◌, Bool, true, false, not, List, [], ◌∷◌, ◌++◌, map, length, take, drop, ℤ, nat_abs, None, sym, refl, ap, ◌∙◌, ap₂, arith, length-append}
-use Rattle.std.specs.List.{AllByRecursion as All}
+use Rattle.std.specs.List.{AllByRecursion}
 use Rattle.std.proofs.lemmas.List.{take_at, drop_at, length-take-le, length-drop, length-map}
 use Rattle.std.proofs.lemmas.Bool.{and_parts, ltb-false}
 use Rattle.params.specs.Params.{Params, Sound, reach}
@@ -22,7 +22,7 @@ not_far : (b : Bool) → not b ≡ true → b ≡ false
 not_far true h = sym h
 not_far false h = refl
 
-near : (s : Params) (zs : List ℤ) → all_near s zs ≡ true → All (λ z. nat_abs z ≤ reach s) zs
+near : (s : Params) (zs : List ℤ) → all_near s zs ≡ true → AllByRecursion (λ z. nat_abs z ≤ reach s) zs
 near s [] h = tt
 near s (z ∷ zs) h =
     let both = and_parts (not (far s z)) (all_near s zs) h in

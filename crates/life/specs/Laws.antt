@@ -1,6 +1,6 @@
 -- What holds over a card's whole life.
 use Rattle.std.specs.Prelude.{◌≡◌, ℕ, ◌<◌, ◌≤◌, Bool, false, ◌↔◌, List, [], ◌++◌, map, length, take, Some, None, Ok, Err, Option, Result, ◌==◌}
-use Rattle.std.specs.List.{range_with_len, flat_map, AllByRecursion as All}
+use Rattle.std.specs.List.{range_with_len, flat_map, AllByRecursion}
 use Rattle.params.specs.Params.{Params, Sound}
 use Rattle.words.specs.Flow.{Flow}
 use Rattle.refusal.specs.declared.Refusal.{Refusal}
@@ -51,7 +51,7 @@ till_answer made before r = verdict made.set (till_key made) (last_shown made.se
 
 -- the record's counter is above every counter that the till accepted among them
 abbrev pub AboveAll : MadeCard → (before : List (List ℕ)) → Content → Type 0
-AboveAll made before r = All (λ (paid : Payment). paid.counter < r.counter) (accepted made.set (till_key made) None before)
+AboveAll made before r = AllByRecursion (λ (paid : Payment). paid.counter < r.counter) (accepted made.set (till_key made) None before)
 
 -- exactly then the till accepts the record; else it refuses it for its counter
 pub record JudgedByCounter (made : MadeCard) (r : Content) (before : List (List ℕ)) : Type 0 where
@@ -61,8 +61,8 @@ pub record JudgedByCounter (made : MadeCard) (r : Content) (before : List (List 
 -- every record of every life is judged so, whatever was shown before
 abbrev pub NewerLaw : Type 0
 NewerLaw =
-    (made : MadeCard) → SoundCard made → (nonces masks : Flow) (events : List Event) → All (λ (e : Event). Digested e.call) events →
-    All (λ (r : Content). (before : List (List ℕ)) → JudgedByCounter made r before) (records (life made (loaded nonces masks) events))
+    (made : MadeCard) → SoundCard made → (nonces masks : Flow) (events : List Event) → AllByRecursion (λ (e : Event). Digested e.call) events →
+    AllByRecursion (λ (r : Content). (before : List (List ℕ)) → JudgedByCounter made r before) (records (life made (loaded nonces masks) events))
 
 -- PLACES. A sign counts as many nonce words as its attempts drew; every attempt before the last was rejected, and the last has the fate that the sign's end tells
 abbrev pub Tallied : Answer → Type 0
@@ -76,8 +76,8 @@ Tallied (reported k m) = Unit {0}
 -- counter of its own call
 pub record OwnPlaces (made : MadeCard) (nonces masks : Flow) (events : List Event) : Type 0 where
   pub in_order : nonces.words ≡ flat_map (λ (t : Tried). t.attempt.words) (attempts made (loaded nonces masks) events) ++ (lived made (loaded nonces masks) events).nonces.words
-  pub own : All (λ (t : Tried). ComesFrom made.set made.key t.digest t.counter (own_nonces made.set made.shares t.attempt) t.attempt.fate) (attempts made (loaded nonces masks) events)
-  pub tallied : All Tallied (life made (loaded nonces masks) events)
+  pub own : AllByRecursion (λ (t : Tried). ComesFrom made.set made.key t.digest t.counter (own_nonces made.set made.shares t.attempt) t.attempt.fate) (attempts made (loaded nonces masks) events)
+  pub tallied : AllByRecursion Tallied (life made (loaded nonces masks) events)
 
 -- so it is in every life
 abbrev pub PlacesLaw : Type 0
@@ -115,7 +115,7 @@ for_masks (Some e) = number_of e == 22
 
 -- no answer tells it
 abbrev pub MasksLast : Params → List Answer → Type 0
-MasksLast s answers = All (λ (x : Answer). for_masks (refusal_in (told s x)) ≡ false) answers
+MasksLast s answers = AllByRecursion (λ (x : Answer). for_masks (refusal_in (told s x)) ≡ false) answers
 
 -- the same card in another number of shares
 abbrev pub with_shares : ℕ → MadeCard → MadeCard

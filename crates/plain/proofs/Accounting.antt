@@ -1,6 +1,6 @@
 -- A signing's accounts.
 use Rattle.std.proofs.Common.{◌≡◌, ℕ, suc, ◌+◌, ◌-◌, ◌*◌, ◌<◌, ◌≤◌, Bool, true, false, cond, ltb, List, [], ◌∷◌, ◌++◌, map, length, sym, refl, ap, ◌∙◌, append_assoc, mul-one, mul-add, arith, length-append}
-use Rattle.std.specs.List.{AllByRecursion as All}
+use Rattle.std.specs.List.{AllByRecursion}
 use Rattle.std.proofs.ByRecursion.{All-push}
 use Rattle.std.proofs.lemmas.List.{append-nil, length_push, map_push}
 use Rattle.std.proofs.lemmas.Bool.{leb-true, leb-false, ltb-true, ltb-false}
@@ -60,7 +60,7 @@ module _ (e : Setting) (some-n : 0 < e.set.n) (some-m : 0 < e.shares) (few : len
   -- what becomes of those words and of what follows
   record Sound-run (before : ℕ) (ws : List ℕ) (gs : List (List ℕ)) (r : Run) : Type 0 where
     pub tile : words_of r.attempts ++ r.left ≡ ws ++ (flat gs ++ e.cut)
-    pub own : All Own r.attempts
+    pub own : AllByRecursion Own r.attempts
     pub counted : r.drawn ≡ before + length (words_of r.attempts)
 
   module _ (before : ℕ) (ws y : List ℕ) (seen : ℕ) (g : List ℕ) (gs : List (List ℕ)) (d : Drawn before ws y seen (g ∷ gs)) where

@@ -1,7 +1,7 @@
 -- Words in groups of m, and the groups' words again.
 use Rattle.std.proofs.Common.{◌≡◌, ℕ, zero, suc, ◌+◌, ◌*◌, ◌/◌, ◌<◌, ◌≤◌, List, [], ◌∷◌, ◌++◌, map, length, take, drop, sym, refl, ap, ◌∙◌, ap₂, append_assoc, add-zero, mod-lt, mul-one, mul-suc, mul-add, arith, length-append, length-drop, take-append-drop}
 use native.Mathlib.Nat.{add-div_left, div-eq_of_lt, mod-add-div, mul-add-div}
-use Rattle.std.specs.List.{flat_map, AllByRecursion as All}
+use Rattle.std.specs.List.{flat_map, AllByRecursion}
 use Rattle.std.proofs.lemmas.List.{take_at, drop_at, length-take-le, drop-drop, append-nil}
 use Rattle.params.specs.Params.{Params}
 use Rattle.plain.specs.Nonces.{groups, whole, cut_short, candidate, candidates}
@@ -12,7 +12,7 @@ flat gs = flat_map (λ (h : List ℕ). h) gs
 
 -- groups of m words
 abbrev pub Sized : ℕ → List (List ℕ) → Type 0
-Sized m gs = All (λ g. length g ≡ m) gs
+Sized m gs = AllByRecursion (λ g. length g ≡ m) gs
 
 pub flat_long : (m : ℕ) (gs : List (List ℕ)) → Sized m gs → length (flat gs) ≡ m * length gs
 flat_long m [] z = let e : m * 0 ≡ 0 = omega arith in sym e

@@ -1,7 +1,7 @@
 -- What holds of every signing: it accounts for each nonce word that it drew and each attempt that it tells of, and its share count shows in
 -- nothing but its word counts and the end of its masks.
 use Rattle.std.specs.Prelude.{◌≡◌, ℕ, ◌+◌, ◌*◌, ◌<◌, ◌≤◌, Bool, true, false, List, [], ◌∷◌, ◌++◌, length}
-use Rattle.std.specs.List.{flat_map, AllByRecursion as All}
+use Rattle.std.specs.List.{flat_map, AllByRecursion}
 use Rattle.params.specs.Params.{Params, Sound}
 use Rattle.words.specs.Flow.{Flow}
 use Rattle.record.specs.Layout.{Content}
@@ -54,7 +54,7 @@ NamesLast tries all_failed attempts = attempts ≡ tries
 pub record Accounts (s : Params) (key : Key) (m : ℕ) (digest : List ℕ) (counter tries : ℕ) (nonces masks : Flow) (r : Run) : Type 0 where
   pub in_order : nonces.words ≡ words_of r.attempts ++ r.left
   pub counted : r.drawn ≡ length (words_of r.attempts)
-  pub own : All (λ (t : Attempt). ComesFrom s key digest (counter + 1) (own_nonces s m t) t.fate) r.attempts
+  pub own : AllByRecursion (λ (t : Attempt). ComesFrom s key digest (counter + 1) (own_nonces s m t) t.fate) r.attempts
   pub fates : Fates r.outcome r.attempts
   pub tried : length r.attempts ≤ tries
   pub named : NamesLast tries r.outcome (length r.attempts)

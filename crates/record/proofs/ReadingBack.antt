@@ -5,7 +5,7 @@ use Rattle.std.proofs.ByRecursion.{All-map, All-weaker}
 use Rattle.std.proofs.lemmas.List.{drop_at, drop-drop, length-append, length-map, take_at}
 use Rattle.std.proofs.lemmas.Int.{to_z-of_z}
 use Rattle.std.proofs.lemmas.Bool.{and_from, cond-false, eq-eqb, le-ltb}
-use Rattle.std.specs.List.{AllByRecursion as All}
+use Rattle.std.specs.List.{AllByRecursion}
 use Rattle.params.proofs.Facts.{n_quarters}
 use Rattle.params.specs.Params.{Params, Sound, reach}
 use Rattle.refusal.specs.declared.Refusal.TheVariants.{RecordSize, Kind, OutOfReach, UnusedCode}
@@ -34,7 +34,7 @@ near_fits : (z : ℤ) (k : ℕ) → k < 2 ^ 15 → nat_abs z ≤ k → SFits w16
 near_fits (pos m) k h l = record { sfits = omega arith }
 near_fits (negsuc m) k h l = record { sfits = omega arith }
 
-z_back : (zs : List ℤ) → All (SFits w16) zs → z_of (z_bytes zs) ≡ zs
+z_back : (zs : List ℤ) → AllByRecursion (SFits w16) zs → z_of (z_bytes zs) ≡ zs
 z_back [] h = refl
 z_back (z ∷ zs) h =
     let f : Fits w16 (of_z w16 z) = Fits-of_z h.0 in
@@ -45,7 +45,7 @@ length_z_bytes [] = refl
 length_z_bytes (z ∷ zs) = ap (λ (k : ℕ). suc (suc k)) (length_z_bytes zs) ∙ omega arith
 
 -- codes of the challenge
-codes_back : (cs : List ℕ) (k : ℕ) → length cs ≡ 4 * k → All (λ v. v < 4) cs → unpacked (packed cs) ≡ cs
+codes_back : (cs : List ℕ) (k : ℕ) → length cs ≡ 4 * k → AllByRecursion (λ v. v < 4) cs → unpacked (packed cs) ≡ cs
 codes_back [] k e h = refl
 codes_back (a ∷ []) k e h = absurd (omega arith)
 codes_back (a ∷ b ∷ []) k e h = absurd (omega arith)
@@ -91,12 +91,12 @@ coded s h v (inr (inr e)) =
     let k : code_of v ≡ 3 = ap (λ (x : ℕ). code_of x) e ∙ cond-false (ltb (s.p - 1) 2) (s.p - 1) 3 (le-ltb (s.p - 1) 2 (omega arith)) in
     record { fits = omega arith; used = ap (λ (x : ℕ). eqb x 2) k; means = ap (coefficient s.p) k ∙ sym e }
 
-residues_back : (p : ℕ) (cs : List ℕ) → All (Coded p) cs → map (coefficient p) (map code_of cs) ≡ cs
+residues_back : (p : ℕ) (cs : List ℕ) → AllByRecursion (Coded p) cs → map (coefficient p) (map code_of cs) ≡ cs
 residues_back p [] h = refl
 residues_back p (v ∷ cs) h = ap₂ (λ (x : ℕ) (xs : List ℕ). x ∷ xs) h.0.means (residues_back p cs h.1)
 
 -- where each misses, nothing is found
-none_found : {A : Type 0} (test : A → Bool) (i : ℕ) (xs : List A) → All (λ x. test x ≡ false) xs → first_from test i xs ≡ None
+none_found : {A : Type 0} (test : A → Bool) (i : ℕ) (xs : List A) → AllByRecursion (λ x. test x ≡ false) xs → first_from test i xs ≡ None
 none_found test i [] h = refl
 none_found test i (x ∷ xs) h = cond-false (test x) _ _ h.0 ∙ none_found test (i + 1) xs h.1
 
@@ -115,7 +115,7 @@ read_back s sound r small ld lz lc proper =
     let behind : drop 40 bytes ≡ tail = sym (drop-drop 32 8 bytes) ∙ drop_at r.digest tail 32 ld in
     let zp : z_part s bytes ≡ z_bytes r.z = ap (take (4 * n)) behind ∙ take_at (z_bytes r.z) (packed codes) (4 * n) lzb in
     let cp : c_part s bytes ≡ packed codes = sym (drop-drop (4 * n) 40 bytes) ∙ ap (drop (4 * n)) behind ∙ drop_at (z_bytes r.z) (packed codes) (4 * n) lzb in
-    let all_coded : All (Coded s.p) r.c = All-weaker (Ternary s) (Coded s.p) (coded s (omega (arith, sound.k_below_p, sound.alpha_below_k, sound.alpha_some))) r.c proper.ternary in
+    let all_coded : AllByRecursion (Coded s.p) r.c = All-weaker (Ternary s) (Coded s.p) (coded s (omega (arith, sound.k_below_p, sound.alpha_below_k, sound.alpha_some))) r.c proper.ternary in
     let z_of-part : z_of (z_part s bytes) ≡ r.z =
     ap z_of zp ∙ z_back r.z (All-weaker (λ z. nat_abs z ≤ reach s) (SFits w16) (λ z. near_fits z (reach s) sound.reach_small) r.z proper.near) in
     let codes-of-part : unpacked (c_part s bytes) ≡ codes =

@@ -1,6 +1,6 @@
 -- What a writer leaves in the area that it is lent.
 use Rattle.std.specs.Prelude.{◌≡◌, ℕ, ◌-◌, ◌*◌, ◌≤◌, Bool, cond, ◌&&◌, ◌⊎◌, List, length, ℤ, None, Ok, Err, Result, ◌==◌, unsigned_abs}
-use Rattle.std.specs.List.{AllByRecursion as All}
+use Rattle.std.specs.List.{AllByRecursion}
 use Rattle.params.specs.Params.{Params, reach}
 use Rattle.refusal.specs.declared.Refusal.{Refusal}
 use Rattle.refusal.specs.declared.Refusal.TheVariants.{AreaSize}
@@ -30,8 +30,8 @@ Ternary s v = (v ≡ 0) ⊎ ((v ≡ 1) ⊎ (v ≡ s.p - 1))
 
 -- no coefficient of z lies too far from 0, and those of the challenge are 0, 1 and −1
 pub record Proper (s : Params) (r : Content) : Type 0 where
-  pub near : All (λ z. unsigned_abs z ≤ reach s) r.z
-  pub ternary : All (Ternary s) r.c
+  pub near : AllByRecursion (λ z. unsigned_abs z ≤ reach s) r.z
+  pub ternary : AllByRecursion (Ternary s) r.c
 
 -- what a writer wrote of a proper content passes the reader's tests and says that content
 abbrev pub ReadsBack : Params → Content → Result (Unit {0}) Refusal → List ℕ → Type 0

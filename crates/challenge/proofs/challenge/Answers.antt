@@ -3,7 +3,7 @@ use Rattle.challenge.proofs.challenge.Goals as goal
 use Rattle.challenge.proofs.Ternary.{challenge_proper, challenge_ternary}
 use Rattle.record.specs.Writing.{Ternary}
 use Rattle.ring.specs.Laws.{Proper}
-use Rattle.std.specs.List.{AllByRecursion as All, flat_map}
+use Rattle.std.specs.List.{AllByRecursion, flat_map}
 use Rattle.challenge.specs.Challenge.{challenge, filled, message, stream}
 use Rattle.record.specs.Layout.{le2, le4}
 use Rattle.shake.specs.Progress.{Absorbing}
@@ -25,5 +25,5 @@ returns g c =
     record {
       is = is;
       polynomial = subst (Proper s.n s.p) (sym is) (challenge_proper s g.S.ParamSet.sound c.args.r.now digest c.args.counter);
-      ternary = subst (All (Ternary s)) (sym is) (challenge_ternary s c.args.r.now digest c.args.counter);
+      ternary = subst (AllByRecursion (Ternary s)) (sym is) (challenge_ternary s c.args.r.now digest c.args.counter);
     }
