@@ -1,5 +1,5 @@
 -- How answers are told.
-use Rattle.std.specs.Prelude.{ℕ, Bool, true, false, List, [], ◌++◌, is_ok as isOk, Ok, Err, codes, decimal, Result}
+use Rattle.std.specs.Prelude.{ℕ, Bool, true, false, List, [], ◌++◌, is_ok, Ok, Err, codes, decimal, Result}
 use Rattle.refusal.specs.Told.{counts_text, told}
 use Rattle.refusal.specs.declared.Refusal.{Refusal}
 use Rattle.card.specs.declared.state.Signed.{Signed as Made}
@@ -11,15 +11,15 @@ use Rattle.life.specs.declared.call.Call.{Call}
 use Rattle.life.specs.declared.call.Call.TheVariants.{Sign, Remask, Report}
 
 -- the line did what it was asked
-abbrev pub is_ok : Answer → Bool
-is_ok (Checked r) = isOk r
-is_ok NoTill = false
-is_ok (Loaded r) = isOk r
-is_ok (Signed r) = isOk r
-is_ok (Remasked r) = isOk r
-is_ok (Reported r) = true
-is_ok (NoCard c) = false
-is_ok (Filled s r) = isOk r
+abbrev pub answer_is_ok : Answer → Bool
+answer_is_ok (Checked r) = is_ok r
+answer_is_ok NoTill = false
+answer_is_ok (Loaded r) = is_ok r
+answer_is_ok (Signed r) = is_ok r
+answer_is_ok (Remasked r) = is_ok r
+answer_is_ok (Reported r) = true
+answer_is_ok (NoCard c) = false
+answer_is_ok (Filled s r) = is_ok r
 
 abbrev pub call_name : Call → List ℕ
 call_name (Sign digest tries) = codes "sign"

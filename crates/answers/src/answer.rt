@@ -1,6 +1,6 @@
 // What a line answers, and how it is told.
 ghost use Rattle.std.specs.Prelude.{◌≡◌, Some};
-ghost use Rattle.answers.specs.Texts.{answer_text, is_ok, told_text};
+ghost use Rattle.answers.specs.Texts.{answer_is_ok, answer_text, told_text};
 
 use crate::text::Hex;
 use card::{Report, Signed};
@@ -34,7 +34,7 @@ pub struct Told<'a> {
 impl Answer {
     // Whether the line did what it was asked.
     pub fn is_ok(&self) -> bool
-        ensures { result ≡ is_ok self.now }
+        ensures { result ≡ answer_is_ok self.now }
     {
         match self {
             Answer::Checked(result) => result.is_ok(),

@@ -2,7 +2,7 @@
 use Rattle.std.proofs.Common.{◌≡◌, ℕ, ◌+◌, ◌≤◌, Bool, true, false, cond, Some, None, Ok, Option, Result, refl, add-one, arith}
 use mir.Val.{bool_byte}
 use Rattle.std.specs.declared.alloc.AllocError.{AllocError}
-use Rattle.answers.specs.Texts.{is_ok}
+use Rattle.answers.specs.Texts.{answer_is_ok}
 use Rattle.answers.specs.declared.answer.Answer.{Answer}
 use Rattle.script.specs.declared.command.Call.{Call}
 use Rattle.script.specs.declared.command.Call.TheVariants.{Check, Sign, Remask, Report}
@@ -22,7 +22,7 @@ bit_le false = omega arith
 abbrev Counted : World → Shown → (n done : ℕ) → Option Answer → World → Type 0
 Counted w shown n done last w' = (done ≡ done_calls n w shown) × (last ≡ last_answer n w shown) × (w' ≡ after_calls n w shown)
 
-counted_more : (n done : ℕ) (w was next : World) (last : Option Answer) (shown : Shown) (a : Answer) → Counted w shown n done last was → (a ≡ answer was shown) × (next ≡ after was shown) → Counted w shown (n + 1) (done + cond (is_ok a) 1 0) (Some a) next
+counted_more : (n done : ℕ) (w was next : World) (last : Option Answer) (shown : Shown) (a : Answer) → Counted w shown n done last was → (a ≡ answer was shown) × (next ≡ after was shown) → Counted w shown (n + 1) (done + cond (answer_is_ok a) 1 0) (Some a) next
 unfolding after_calls done_calls last_answer
 counted_more n done w was next last shown a before once = rw (add-one, before.0, ← before.2, once.0, once.1) (refl, refl, refl)
 

@@ -14,7 +14,7 @@ use Rattle.script.specs.declared.command.Supply.{Supply}
 use Rattle.script.specs.declared.stream.Stream.{Stream}
 use Rattle.world.specs.Cards.{Calls, Loads, Supplies, feed_of, with_feed, with_key}
 use Rattle.world.specs.Cards as cards
-use Rattle.answers.specs.Texts.{is_ok}
+use Rattle.answers.specs.Texts.{answer_is_ok}
 use Rattle.world.specs.Tills.{params_of, check_answer, till_after}
 use Rattle.answers.specs.declared.answer.Answer.{Answer}
 use Rattle.answers.specs.declared.answer.Answer.TheVariants.{Filled, Loaded}
@@ -118,7 +118,7 @@ OfCheck Report = ⊥
 -- a number of calls in a row: how many did what they were asked, the last answer, and the world after them
 pub data Repeated (w : World) (call : Call) : ℕ → ℕ → Option Answer → World → Type 0 where
   none : Repeated w call 0 0 None w
-  more : {n done : ℕ} {last : Option Answer} {was next : World} {a : Answer} → Repeated w call n done last was → Called was call a next → Repeated w call (n + 1) (done + cond (is_ok a) 1 0) (Some a) next
+  more : {n done : ℕ} {last : Option Answer} {was next : World} {a : Answer} → Repeated w call n done last was → Called was call a next → Repeated w call (n + 1) (done + cond (answer_is_ok a) 1 0) (Some a) next
 
 -- where memory ended, fewer calls than were asked for were made, and the world is as these left it
 pub record CutShort (w : World) (call : Call) (times : ℕ) (w' : World) : Type 0 where
@@ -135,7 +135,7 @@ after_calls (suc n) w shown = after (after_calls n w shown) shown
 
 unfoldable pub done_calls : ℕ → World → Shown → ℕ
 done_calls zero w shown = 0
-done_calls (suc n) w shown = done_calls n w shown + cond (is_ok (answer (after_calls n w shown) shown)) 1 0
+done_calls (suc n) w shown = done_calls n w shown + cond (answer_is_ok (answer (after_calls n w shown) shown)) 1 0
 
 unfoldable pub last_answer : ℕ → World → Shown → Option Answer
 last_answer zero w shown = None

@@ -1,6 +1,6 @@
 use Rattle.std.proofs.Common.{◌≡◌, ℕ, ◌+◌, cond, Some, sym, ap, ◌∙◌, subst, arith}
 use mir.Val.{bool_byte}
-use Rattle.answers.specs.Texts.{is_ok}
+use Rattle.answers.specs.Texts.{answer_is_ok}
 use Rattle.world.specs.State.{Repeated, none, more}
 use Rattle.world.proofs.Checks.{bit, bit_le, repeats_done}
 use Rattle.world.proofs.state.World.repeat.Goals as goal
@@ -13,7 +13,7 @@ calls-preserved c =
     let inv = c.calls.invariant in
     let answer = c.in_ok-answer.answer in
     let once = more inv.1 c.in_ok-answer.ensures.called in
-    let one = c.from-done.ensures ∙ ap bool_byte c.is_ok.ensures ∙ bit (is_ok answer) in (
+    let one = c.from-done.ensures ∙ ap bool_byte c.is_ok.ensures ∙ bit (answer_is_ok answer) in (
       omega (arith, c.from-done.ensures, bit_le c.is_ok.result),
       subst (λ (n : ℕ). Repeated c.args.self.now c.args.call.now (c.calls._turn + 1) (c.calls.done + n) (Some answer) c.call.new.self) (sym one) once,
     )
