@@ -1,5 +1,5 @@
 -- A load makes a card that stands at the start of its life.
-use Rattle.std.proofs.Common.{◌≡◌, ℕ, ◌-◌, ◌*◌, ◌<◌, ◌≤◌, List, [], ◌++◌, length, get_or, take, drop, ℤ, Some, None, Ok, Err, Option, Result, OnOk, sym, refl, ap, ◌∙◌, subst, arith, take-append-drop}
+use Rattle.std.proofs.Common.{◌≡◌, ℕ, ◌-◌, ◌*◌, ◌<◌, List, [], length, take, drop, ℤ, Some, None, Ok, Err, Option, Result, OnOk, sym, refl, ap, ◌∙◌, subst, arith, take-append-drop}
 use Rattle.std.proofs.lemmas.List.{get_or-drop, get_or-take, length-drop, length-take-le}
 use Rattle.params.specs.Params.{Params, Sound}
 use Rattle.refusal.specs.declared.Refusal.{Refusal}
@@ -11,8 +11,8 @@ use Rattle.words.specs.Flow.{Flow}
 use Rattle.keys.specs.Load.{Loadable, public_key, residues_of}
 use Rattle.card.specs.declared.state.Loaded.{Loaded}
 use Rattle.card.specs.Load.{LoadBy}
-use Rattle.calls.specs.Replies.{Areas, areas}
-use Rattle.calls.specs.Goings.{Begins, key_of}
+use Rattle.calls.specs.Replies.{areas}
+use Rattle.calls.specs.Goings.{Begins}
 
 recombined_residues : (s : Params) → Sound s → (m : ℕ) (key : List ℕ) → length key ≡ 2 * m * s.n → Residues s.p key → Residues s.p (recombined s m key)
 unfolding recombined

@@ -1,5 +1,5 @@
 -- A call that does what its definition says is the next event of the card's life.
-use Rattle.std.proofs.Common.{◌≡◌, ℕ, zero, suc, ◌+◌, ◌*◌, ◌<◌, Bool, true, false, cond, leb, List, [], ◌∷◌, ◌++◌, length, get_or, take, drop, Some, None, Ok, Err, Option, Result, sym, refl, ap, ◌∙◌, subst, ap₂, arith}
+use Rattle.std.proofs.Common.{◌≡◌, ℕ, zero, suc, ◌<◌, Bool, true, false, leb, List, [], ◌∷◌, ◌++◌, get_or, take, drop, Some, None, Option, Result, sym, refl, ap, ◌∙◌, subst, ap₂, arith}
 use Rattle.std.specs.List.{AllByRecursion}
 use Rattle.std.proofs.ByRecursion.{All-push}
 use Rattle.std.proofs.lemmas.List.{take_at, drop_at}
@@ -14,28 +14,25 @@ use Rattle.search.specs.First.{first_at}
 use Rattle.search.proofs.Searching.{all-miss}
 use Rattle.words.specs.Flow.{Flow}
 use Rattle.polys.specs.Area.{recombined}
-use Rattle.plain.specs.Run.{Key, Run, counts_of, sign}
+use Rattle.plain.specs.Run.{Key, sign}
 use Rattle.plain.specs.Laws.{words_of}
 use Rattle.plain.proofs.Accounting.{signing_accounts}
 use Rattle.attempt.specs.Attempt.{key_in}
 use Rattle.card.specs.declared.state.Signed.{Signed}
-use Rattle.keys.specs.Charge.{taken}
-use Rattle.keys.specs.Key.{KeyArea}
-use Rattle.keys.specs.Remask.{key_tests, word_test}
+use Rattle.keys.specs.Remask.{word_test}
 use Rattle.card.specs.Remask.{RemaskBy}
 use Rattle.card.specs.Sign.{Ran, SignBy, counter_test, public_test, tries_test}
-use Rattle.life.specs.declared.call.Call.{Call}
-use Rattle.life.specs.declared.call.Call.TheVariants.{Sign, Remask, Report}
-use Rattle.life.specs.Life.{Event, MadeCard, CardState, Answer, remasked, after_call, after_sign, answer, answer_to, life, lived, loaded, moved, run_of, sign_answer}
-use Rattle.life.specs.Laws.{SoundCard, Digested, till_key}
+use Rattle.life.specs.declared.call.Call.TheVariants.{Sign, Remask}
+use Rattle.life.specs.Life.{Event, MadeCard, CardState, after_sign, answer, lived, loaded, moved, run_of, sign_answer}
+use Rattle.life.specs.Laws.{SoundCard, Digested}
 use Rattle.life.proofs.Verify.{public_key}
 use Rattle.life.proofs.Newer.{newer_law}
 use Rattle.life.proofs.Places.{places_law, numbers_law}
 use Rattle.life.proofs.Alike.{alike_law}
 use Rattle.calls.specs.declared.reply.Reply.{Reply}
-use Rattle.calls.specs.declared.reply.Reply.TheVariants.{Signed as SignReply, Remasked, Reported}
-use Rattle.calls.specs.Replies.{Areas, Performs, areas, bytes_after, fit, reply_of}
-use Rattle.calls.specs.Goings.{Continues, GoesOn, Lives, OwnAreas, Promises, card_of, state_of}
+use Rattle.calls.specs.declared.reply.Reply.TheVariants.{Signed as SignReply, Remasked}
+use Rattle.calls.specs.Replies.{Areas, bytes_after, reply_of}
+use Rattle.calls.specs.Goings.{GoesOn, Lives, OwnAreas, Promises, state_of}
 
 lived_push : (made : MadeCard) (c : CardState) (events : List Event) (e : Event) → lived made c (events ++ e ∷ []) ≡ moved made (lived made c events) e
 lived_push made c [] e = refl

@@ -1,5 +1,5 @@
 -- One call on a card: what each kind of call does.
-use Rattle.std.specs.Prelude.{◌≡◌, ℕ, ◌*◌, Bool, true, ◌&&◌, List, length, Ok, Err, Result, ◌==◌}
+use Rattle.std.specs.Prelude.{◌≡◌, ℕ, ◌*◌, Bool, true, ◌&&◌, List, length, Err, ◌==◌}
 use Rattle.params.specs.Params.{Params}
 use Rattle.refusal.specs.Tests.{first_hit}
 use Rattle.record.specs.Layout.{size}

@@ -1,14 +1,13 @@
 -- A signing that follows the plain run, as the answer of a sign.
-use Rattle.std.proofs.Common.{◌≡◌, ℕ, ◌+◌, ◌*◌, ◌<◌, List, [], ◌∷◌, length, take, replicate, None, Ok, Err, Option, Result, sym, refl, ap, ◌∙◌, subst, ap₂}
+use Rattle.std.proofs.Common.{◌≡◌, ℕ, ◌+◌, ◌<◌, List, [], ◌∷◌, length, take, replicate, Ok, Err, sym, refl, ap, ◌∙◌, subst, ap₂}
 use Rattle.std.specs.List.{AllByRecursion}
 use Rattle.params.specs.Params.{Params, Sound}
 use Rattle.refusal.specs.declared.Refusal.{Refusal}
 use Rattle.refusal.specs.declared.fault.Counts.{Counts}
-use Rattle.record.specs.Layout.{Content, encode}
+use Rattle.record.specs.Layout.{Content}
 use Rattle.words.specs.Flow.{Flow}
-use Rattle.words.specs.Spending.{Spent}
 use Rattle.plain.specs.Laws.{ComesFrom, Fates, own_nonces}
-use Rattle.plain.specs.Run.{Attempt, Fate, Key, Outcome, Run, all_failed, closed, counts_of, passed, sign, signed}
+use Rattle.plain.specs.Run.{Attempt, Fate, Key, Outcome, Run, closed, counts_of, sign, signed}
 use Rattle.plain.proofs.Accounting.{signing_accounts}
 use Rattle.attempt.specs.Attempt.{key_in, subject_of}
 use Rattle.attempt.specs.Stages.{outcome_of}
@@ -17,9 +16,7 @@ use Rattle.attempt.specs.declared.stopped.Stopped.TheVariants.{Nonces, Masks}
 use Rattle.signing.specs.declared.failure.Failure.{Failure}
 use Rattle.signing.specs.declared.failure.Failure.TheVariants.{Halted, TriesFailed as FailedTries}
 use Rattle.signing.specs.Signing.{Follows, plain_run}
-use Rattle.card.specs.declared.state.Signed.{Signed}
-use Rattle.keys.specs.Charge.{taken}
-use Rattle.card.specs.Sign.{Ran, SignBy, answer_of, counter_after, outcome_in, record_after}
+use Rattle.card.specs.Sign.{Ran, answer_of, counter_after, outcome_in, record_after}
 use Rattle.keys.proofs.Charges.{spent-taken}
 
 -- a record has the counter that its attempt was made for

@@ -1,12 +1,12 @@
 -- Sign: its tests, and then the plain run on the key that the shares stand for.
-use Rattle.std.specs.Prelude.{◌≡◌, ℕ, ◌+◌, ◌*◌, ◌<◌, ◌≤◌, ◌&&◌, leb, List, [], ◌∷◌, length, take, replicate, Some, None, Ok, Err, Option, Result, ◌==◌, nat_le, nat_lt}
+use Rattle.std.specs.Prelude.{◌≡◌, ℕ, ◌+◌, ◌*◌, ◌<◌, ◌&&◌, leb, List, [], ◌∷◌, length, take, replicate, Some, None, Ok, Err, Option, Result, ◌==◌, nat_le, nat_lt}
 use Rattle.params.specs.Params.{Params}
 use Rattle.refusal.specs.declared.Area.TheVariants.{Public}
 use Rattle.refusal.specs.declared.Refusal.{Refusal}
 use Rattle.refusal.specs.declared.Refusal.TheVariants.{AreaSize, NotResidue, Tries, CounterEnd, NoncesEndedAt, MasksEndedAt, TriesFailed}
 use Rattle.refusal.specs.declared.fault.Counts.{Counts}
 use Rattle.refusal.specs.Tests.{unless, at_index, first_hit}
-use Rattle.record.specs.Layout.{Content, encode, size}
+use Rattle.record.specs.Layout.{encode, size}
 use Rattle.ring.specs.Ring.{Residues}
 use Rattle.search.specs.First.{first_at}
 use Rattle.words.specs.Flow.{Flow}
@@ -16,7 +16,6 @@ use Rattle.attempt.specs.Stages.{outcome_of}
 use Rattle.signing.specs.declared.failure.Failure.{Failure}
 use Rattle.signing.specs.declared.failure.Failure.TheVariants.{Halted, TriesFailed as FailedTries}
 use Rattle.keys.specs.Charge.{taken}
-use Rattle.keys.specs.Key.{KeyArea}
 use Rattle.keys.specs.Remask.{word_test}
 use Rattle.card.specs.declared.state.Signed.{Signed}
 

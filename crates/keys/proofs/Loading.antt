@@ -10,7 +10,7 @@ use Rattle.words.specs.declared.Mark.{Mark}
 use Rattle.words.specs.Flow.{Flow}
 use Rattle.words.specs.Spending.{Spent, Short, Spends}
 use Rattle.words.proofs.Spendings.{spent_none, spent_then, spent_as, short_then, short_of, times_none, times_more, times_below}
-use Rattle.keys.specs.Load.{split, split_cost, load_cost, Splits, Holds, residues_of}
+use Rattle.keys.specs.Load.{split_cost, load_cost, Splits, Holds, residues_of}
 use Rattle.polys.specs.Area.{shares_of}
 use Rattle.polys.proofs.Places.{area-within, recombined-are}
 

@@ -1,5 +1,5 @@
 -- A text that is read word by word, the words parted by one space.
-use Rattle.std.proofs.Common.{◌≡◌, ℕ, suc, List, [], ◌∷◌, ◌++◌, Err, sym, refl, ap, subst, append_assoc, arith}
+use Rattle.std.proofs.Common.{◌≡◌, ℕ, suc, List, [], ◌∷◌, ◌++◌, Err, sym, refl, subst, append_assoc, arith}
 use Rattle.std.specs.Str.Iter.{LacksByte}
 use Rattle.script.specs.Answers.{Reads}
 use Rattle.script.specs.Words.{Writes}

@@ -1,15 +1,14 @@
 -- What the meters of a signing tell.
-use Rattle.std.proofs.Common.{◌≡◌, ℕ, ◌-◌, ◌/◌, ◌^◌, ◌<◌, ◌≤◌, List, length, Ok, Err, Result, sym, refl, ap, ◌∙◌, arith, length-drop}
+use Rattle.std.proofs.Common.{◌≡◌, ℕ, ◌^◌, ◌<◌, ◌≤◌, List, length, Ok, Err, Result, sym, ap, ◌∙◌, arith, length-drop}
 use Rattle.params.specs.Params.{Params}
 use Rattle.words.specs.declared.Mark.{Mark}
 use Rattle.words.specs.Flow.{Flow, metered}
 use Rattle.words.specs.Spending.{Spent, Spends}
 use Rattle.words.proofs.Meters.{metered-same, metered-spends, metered_count}
-use Rattle.refusal.specs.declared.fault.Counts.{Counts}
 use Rattle.plain.specs.Run.{Run, counts_of}
 use Rattle.signing.specs.declared.failure.Failure.{Failure}
 use Rattle.signing.specs.declared.failure.Failure.TheVariants.{Halted, TriesFailed}
-use Rattle.signing.specs.Signing.{EndsAs, Follows, attempts_begun}
+use Rattle.signing.specs.Signing.{EndsAs, attempts_begun}
 
 pub begun_is : (s : Params) (tries : ℕ) (o : Result ℕ Failure) (bytes bytes' : List ℕ) (r : Run) → EndsAs s tries o bytes bytes' r → attempts_begun tries o ≡ length r.attempts
 begun_is s tries (Ok attempts) bytes bytes' r h = sym h.begun

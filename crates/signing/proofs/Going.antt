@@ -1,5 +1,5 @@
 -- A signing part of the way: so many attempts were rejected.
-use Rattle.std.proofs.Common.{◌≡◌, ℕ, ◌+◌, ◌-◌, ◌*◌, ◌/◌, ◌<◌, ◌≤◌, leb, List, [], ◌∷◌, ◌++◌, length, Ok, Err, sym, refl, ap, ◌∙◌, subst, ap₂, append_assoc, add-zero, mul-zero, mul-add, arith, length-append, le-leb}
+use Rattle.std.proofs.Common.{◌≡◌, ℕ, ◌+◌, ◌-◌, ◌*◌, ◌/◌, ◌<◌, ◌≤◌, leb, List, [], ◌∷◌, ◌++◌, length, Ok, Err, sym, refl, ap, ◌∙◌, append_assoc, add-zero, mul-zero, mul-add, arith, length-append, le-leb}
 use native.Mathlib.Nat.{div-eq_of_lt, mul-add-div}
 use borrow.Author.Tests.{lt-leb}
 use Rattle.std.proofs.lemmas.List.{length_push}
@@ -7,19 +7,17 @@ use Rattle.params.specs.Params.{Params}
 use Rattle.words.specs.Flow.{Flow}
 use Rattle.words.specs.Spending.{Spent}
 use Rattle.words.proofs.Spendings.{spent_as, spent_none, spent_then}
-use Rattle.record.specs.Layout.{Content}
 use Rattle.plain.specs.Nonces.{whole}
-use Rattle.plain.specs.Run.{Attempt, Fate, Run, Setting, Outcome, all_failed, signed, rejected, after_rejected, choose, run, stop}
+use Rattle.plain.specs.Run.{Attempt, Run, Setting, Outcome, all_failed, signed, rejected, after_rejected, choose, run, stop}
 use Rattle.plain.proofs.Paths.{choose_is, choose_not}
-use Rattle.drawing.specs.Resume.{Subject, Supply, setting_of, resume, Fits, Stops}
+use Rattle.drawing.specs.Resume.{Subject, setting_of, resume, Fits, Stops}
 use Rattle.drawing.proofs.Resuming.{wanting}
 use Rattle.attempt.specs.Attempt.{Passed, Rejected}
 use Rattle.attempt.specs.Stages.{outcome_of, attempt_of}
 use Rattle.attempt.specs.Stages as stages
 use Rattle.attempt.specs.declared.stopped.Stopped.{Stopped}
-use Rattle.attempt.specs.declared.stopped.Stopped.TheVariants.{Nonces, Masks}
 use Rattle.signing.specs.declared.failure.Failure.TheVariants.{Halted, TriesFailed}
-use Rattle.signing.specs.Signing.{EndsAs, Follows, Written, plain_run, supply_of}
+use Rattle.signing.specs.Signing.{Follows, plain_run, supply_of}
 
 -- rejected attempts, and the run that follows them
 abbrev after : List Attempt → Run → Run

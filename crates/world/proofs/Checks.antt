@@ -1,7 +1,6 @@
 -- Checks in a row.
-use Rattle.std.proofs.Common.{◌≡◌, ℕ, ◌+◌, ◌≤◌, Bool, true, false, cond, Some, None, Ok, Option, Result, refl, add-one, arith}
+use Rattle.std.proofs.Common.{◌≡◌, ℕ, ◌+◌, ◌≤◌, Bool, true, false, cond, Some, Ok, Option, refl, add-one, arith}
 use mir.Val.{bool_byte}
-use Rattle.std.specs.declared.alloc.AllocError.{AllocError}
 use Rattle.answers.specs.Texts.{answer_is_ok}
 use Rattle.answers.specs.declared.answer.Answer.{Answer}
 use Rattle.script.specs.declared.command.Call.{Call}

@@ -1,10 +1,10 @@
-use Rattle.std.proofs.Common.{◌≡◌, ℕ, true, List, sym, refl, ap, ◌∙◌, subst, ap₂}
+use Rattle.std.proofs.Common.{◌≡◌, ℕ, true, sym, refl, ap, ◌∙◌, subst, ap₂}
 use Rattle.card.specs.declared.state.Report.{Report as Tells}
 use Rattle.life.specs.declared.call.Call.{Call}
 use Rattle.life.specs.declared.call.Call.TheVariants.{Sign, Remask, Report}
 use Rattle.calls.specs.declared.reply.Reply.TheVariants.{Signed, Remasked, Reported}
-use Rattle.calls.specs.Replies.{Areas, Performs, areas, fit}
-use Rattle.calls.specs.Goings.{Continues, OwnAreas, card_of, state_of}
+use Rattle.calls.specs.Replies.{Performs, areas, fit}
+use Rattle.calls.specs.Goings.{Continues, card_of, state_of}
 use Rattle.calls.proofs.Continuing.{goes_on, sign-tested, remask-tested}
 use Rattle.calls.proofs.perform.Goals as goal
 

@@ -1,4 +1,4 @@
-use Rattle.std.proofs.Common.{◌≡◌, ◌<◌, Bool, true, false, Ok, refl, ◌∙◌, subst, arith}
+use Rattle.std.proofs.Common.{◌<◌, Bool, Ok, refl, ◌∙◌, subst, arith}
 use Rattle.attempt.specs.Attempt.{AttemptBy, subject_of}
 use Rattle.signing.proofs.Going.{going-first, going_more, ends-signed, ends-halted, ends-failed}
 use Rattle.signing.proofs.sign_in.Goals as goal

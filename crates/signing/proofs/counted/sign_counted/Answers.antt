@@ -1,4 +1,4 @@
-use Rattle.std.proofs.Common.{◌≡◌, ℕ, ◌/◌, sym, ap, ◌∙◌, arith, rules}
+use Rattle.std.proofs.Common.{ℕ, ◌/◌, sym, ap, ◌∙◌, arith, rules}
 use Rattle.attempt.specs.Attempt.{subject_of}
 use Rattle.signing.specs.Signing.{Follows, plain_run}
 use Rattle.signing.proofs.Counting.{begun_is, meter-same, meter-spent, meter-count, counts_are}

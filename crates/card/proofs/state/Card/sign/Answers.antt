@@ -1,4 +1,4 @@
-use Rattle.std.proofs.Common.{◌≡◌, ℕ, ◌+◌, ◌-◌, ◌*◌, ◌<◌, ◌≤◌, List, length, get_or, take, replicate, Ok, Err, Option, Result, sym, refl, ap, ◌∙◌, subst, arith, length-take, get_or-take, rules}
+use Rattle.std.proofs.Common.{◌≡◌, ℕ, ◌+◌, ◌-◌, ◌*◌, ◌<◌, List, length, take, replicate, Ok, Err, Option, Result, sym, refl, ap, ◌∙◌, subst, arith, length-take, get_or-take, rules}
 use Rattle.refusal.specs.declared.Refusal.{Refusal}
 use Rattle.ring.specs.Laws.{Proper}
 use Rattle.ring.specs.Ring.{Residues}
