@@ -69,25 +69,18 @@ impl Feed {
     pub fn checked(self, heap: Global, cutoff: Cutoff) -> Result<Feed, AllocError>
         ensures { IfOk result (λ f. Steady cutoff.value (feed_flow self) (feed_flow f)) }
     {
-        let mut feed = self;
-        feed.put_check(heap, cutoff)?;
-        Ok(feed)
+        let below = Box::new(heap, self)?;
+        Ok(Feed::Checked(Watch::start(cutoff), below))
     }
 
     // The same in place.
     pub fn put_check(&mut self, heap: Global, cutoff: Cutoff) -> Result<(), AllocError>
         ensures { MatchResult result (λ _. Steady cutoff.value (feed_flow self.old) (feed_flow self.new)) (λ _. self.new ≡ self.old) }
     {
-        match Box::new(heap, std::mem::replace(self, Feed::empty(heap))) {
-            Ok(below) => {
-                *self = Feed::Checked(Watch::start(cutoff), below);
-                Ok(())
-            }
-            Err(refused) => {
-                *self = refused.value;
-                Err(AllocError)
-            }
-        }
+        let mut below = Box::new(heap, Feed::empty(heap))?;
+        *below = std::mem::replace(self, Feed::empty(heap));
+        *self = Feed::Checked(Watch::start(cutoff), below);
+        Ok(())
     }
 }
 
