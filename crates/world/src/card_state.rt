@@ -5,8 +5,8 @@ ghost use Rattle.world.specs.Tills.{params_of};
 
 use crate::areas::{lent_size, zero_bytes, zeros};
 use answers::Answer;
-use calls::{Reply, perform};
-use card::{Card, load};
+use calls::{Reply, load, perform};
+use card::Card;
 use feed::Feed;
 use life::Call;
 use params::{ParamSet, SetI, SetS};
