@@ -16,10 +16,9 @@ const MOST: usize = 1024;
 pub fn laws_hold()
     ensures ring { RingLaws }
     ensures centring { CentringLaws }
-{
-}
+{}
 
-// A polynomial of the set S that is lent: n coefficients, each a residue.
+// A polynomial of the set S that is lent: n words, each a residue. What is written to stays a `&mut [u32]`.
 pub struct Poly<'a, S: ParamSet> {
     pub words: &'a [u32],
     set: PhantomData<S>,
@@ -31,10 +30,8 @@ impl<'a, S: ParamSet> Poly<'a, S> {
         requires { Proper S.params.n S.params.p words.now }
         ensures { result.words.now ≡ words.now }
     {
-        Poly {
-            words,
-            set: PhantomData,
-        }
+        let set = PhantomData;
+        Poly { words, set }
     }
 }
 
@@ -127,12 +124,22 @@ pub fn sub_assign<S: ParamSet>(acc: &mut [u32], x: Poly<'_, S>)
     }
 }
 
-// A way to multiply two polynomials of the set S.
+// A way to multiply two polynomials of the set S. An impl writes `multiply_words`, and callers call `multiply`: a method that an impl writes gets no proof if it takes a type of S.
 pub trait Multiply<S: ParamSet> {
-    fn multiply(out: &mut [u32], a: Poly<'_, S>, b: Poly<'_, S>)
+    fn multiply_words(out: &mut [u32], a: &[u32], b: &[u32])
+        requires out { length out.old ≡ S.params.n }
+        requires a { Proper S.params.n S.params.p a.now }
+        requires b { Proper S.params.n S.params.p b.now }
+        ensures value { out.new ≡ product S.params.p a.now b.now }
+        ensures residues { Residues S.params.p out.new };
+
+    final fn multiply(out: &mut [u32], a: Poly<'_, S>, b: Poly<'_, S>)
         requires { length out.old ≡ S.params.n }
         ensures value { out.new ≡ product S.params.p a.entry.words.now b.entry.words.now }
-        ensures residues { Residues S.params.p out.new };
+        ensures residues { Residues S.params.p out.new }
+    {
+        Self::multiply_words(out, a.words, b.words)
+    }
 }
 
 // acc + k · x, with no reduction.
@@ -201,18 +208,14 @@ fn reduce<S: ParamSet>(out: &mut [u32], sums: &[u64])
 pub struct LongProduct;
 
 impl<S: ParamSet> Multiply<S> for LongProduct {
-    fn multiply(out: &mut [u32], a: Poly<'_, S>, b: Poly<'_, S>)
-        requires { length out.old ≡ S.params.n }
-        ensures value { out.new ≡ product S.params.p a.entry.words.now b.entry.words.now }
-        ensures residues { Residues S.params.p out.new }
-    {
+    fn multiply_words(out: &mut [u32], a: &[u32], b: &[u32]) {
         let n = S::degree();
         let mut sums = [0; MOST];
         let mut factor = [0; MOST];
         let acc = &mut sums[0..n];
         let b_shifted = &mut factor[0..n];
-        b_shifted.copy_from_slice(b.words);
-        accumulate::<S>(acc, a, b_shifted);
+        b_shifted.copy_from_slice(b);
+        accumulate::<S>(acc, Poly::new(a), b_shifted);
         reduce::<S>(out, acc)
     }
 }
