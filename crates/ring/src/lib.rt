@@ -154,11 +154,11 @@ fn add_scaled(acc: &mut [u64], k: u32, x: &[u32])
     }
 }
 
+// The last coefficient, 0 where there is none.
 fn last(b: &[u32]) -> u32
-    requires { 0 < length b.now }
     ensures { result ≡ last_of 0 b.now }
 {
-    b[b.len() - 1]
+    b.last().copied().unwrap_or(0)
 }
 
 // Each coefficient goes up one place, and c comes in at the bottom.
@@ -173,7 +173,6 @@ fn shift_in(b: &mut [u32], c: u32)
 
 // x times a polynomial.
 fn times_x<S: ParamSet>(b: &mut [u32])
-    requires { 0 < length b.old }
     ensures { b.new ≡ times_x S.params.p b.old }
 {
     let top = last(b);
