@@ -1,5 +1,5 @@
-use Rattle.std.proofs.Common.{◌≡◌, ℕ, ◌+◌, ◌*◌, Bool, eqb, get_or, drop, sym, ap, ◌∙◌, arith}
-use Rattle.std.proofs.lemmas.List.{at_drop_all, at_drop_more}
+use Rattle.std.proofs.Common.{ℕ, ◌*◌, Bool, eqb, sym, ap, ◌∙◌, arith}
+use Rattle.std.proofs.lemmas.List.{at_drop_all}
 use Rattle.refusal.specs.declared.Refusal.TheVariants.{UnusedCode}
 use Rattle.refusal.specs.Tests.{at_index}
 use Rattle.record.proofs.Firsts.{code_here, no_code_here}
