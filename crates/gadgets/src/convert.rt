@@ -34,6 +34,7 @@ fn draw_masks<const M: usize, S: Source>(ring: Residues, src: &mut S) -> Result<
     ensures { Spends ((residue_rule ring.p).cost * (M - 1)) result (S.flow src.old) (S.flow src.new) (λ z. Within (residue_rule ring.p) z × (slice_index z 0 ≡ 0)) }
 {
     let mut out = [0; M];
+    // By index, since a slice or a skip would take the shares apart.
     for i in 1..M {
         out[i] = ring.mask(src)?;
     }
