@@ -6,7 +6,7 @@ ghost use Rattle.ring.specs.Ring.{Residues, residue};
 use crate::sharing::secret_residue;
 use params::ParamSet;
 use polys::multiply_add;
-use ring::Multiply;
+use ring::{Multiply, Poly};
 
 // The residues of the secret.
 fn read_secret<S: ParamSet>(out: &mut [u32], secret: &[i8])
@@ -32,6 +32,7 @@ pub fn publish<S: ParamSet, M: Multiply<S>>(secret: &[i8], public: &mut [u32])
     let t = &mut t_room[0..n];
     read_secret::<S>(residues, secret);
     let (s1, s2) = residues.split_at(n);
-    multiply_add::<S, M>(t, &public[0..n], s1, s2);
+    let a = &public[0..n];
+    multiply_add::<S, M>(t, Poly::new(a), Poly::new(s1), Poly::new(s2));
     public[n..2 * n].copy_from_slice(t);
 }
