@@ -9,12 +9,13 @@ ghost use Rattle.ring.specs.Laws.{Proper};
 ghost use Rattle.ring.specs.Ring.{Residues, centre, plus, product};
 ghost use Rattle.polys.specs.Area.{recombined, values};
 ghost use Rattle.drawing.specs.Drawing.{halted};
-ghost use Rattle.drawing.specs.Resume.{Subject};
+ghost use Rattle.drawing.specs.Resume.{Subject as Signs};
 ghost use Rattle.attempt.specs.Attempt.{Attempts, subject_of};
 ghost use Rattle.attempt.specs.Stages.{Begins, Closes, Commits, answer_to, attempt_of, commitment_to, outcome_of};
 
 pub mod stage;
 pub mod stopped;
+pub mod subject;
 
 use challenge::challenge;
 use drawing::{Halt, draw};
@@ -27,6 +28,7 @@ use ring::Multiply;
 pub use stage::{Committed, Drawn};
 use steps::Ended;
 pub use stopped::Stopped;
+pub use subject::Subject;
 use words::{Mark, Source};
 
 // Tells an attempt's number with the source that ended in it.
@@ -70,13 +72,11 @@ impl Drawn {
         requires some { 0 < M }
         requires most { M ≤ 8 }
         requires sized { length y.old ≡ 2 * M * S.params.n }
-        ensures drawn { (u : Subject) → Begins S.params M u number result (recombined S.params M y.new) (N.flow nonces.old) (N.flow nonces.new) (W.flow masks.old) (W.flow masks.new) }
+        ensures drawn { (u : Signs) → Begins S.params M u number result (recombined S.params M y.new) (N.flow nonces.old) (N.flow nonces.new) (W.flow masks.old) (W.flow masks.new) }
         ensures residues { OnOk result (Residues S.params.p y.new) }
     {
-        match draw::<M, S, N, W>(y, nonces, masks) {
-            Ok(()) => Ok(Drawn { number }),
-            Err(halt) => Err(stop_at(number, halt)),
-        }
+        draw::<M, S, N, W>(y, nonces, masks).map_err(|halt| stop_at(number, halt))?;
+        Ok(Drawn { number })
     }
 
     /// Opens the commitment a·y1 + y2 into `opened`; `shares` is room for its shares.
@@ -97,10 +97,9 @@ impl Drawn {
     {
         let Drawn { number } = self;
         commit_rows::<M, S, P>(shares, a, y);
-        match open_poly::<M, S, W>(opened, shares, masks) {
-            Ok(()) => Ok(Committed { number }),
-            Err(mark) => Err(masks_ended(number, Step::Commit, mark)),
-        }
+        open_poly::<M, S, W>(opened, shares, masks)
+            .map_err(|mark| masks_ended(number, Step::Commit, mark))?;
+        Ok(Committed { number })
     }
 }
 
@@ -125,25 +124,15 @@ impl Committed {
     {
         let Committed { number } = self;
         respond_rows::<M, S, P>(shares, key, y, c);
-        let passes = match check::<M, S, W>(shares, masks) {
-            Ok(passes) => passes,
-            Err(mark) => return Err(masks_ended(number, Step::Check, mark)),
-        };
+        let passes = check::<M, S, W>(shares, masks)
+            .map_err(|mark| masks_ended(number, Step::Check, mark))?;
         if !passes {
             return Ok(false);
         }
-        match open_response::<M, S, W>(opened, shares, masks) {
-            Ok(()) => Ok(true),
-            Err(mark) => Err(masks_ended(number, Step::Open, mark)),
-        }
+        open_response::<M, S, W>(opened, shares, masks)
+            .map_err(|mark| masks_ended(number, Step::Open, mark))?;
+        Ok(true)
     }
-}
-
-// Room for the answer of the largest set.
-fn answer_room() -> [i16; 2048]
-    ensures { result ≡ replicate 2048 (pos 0) }
-{
-    [0; 2048]
 }
 
 // Writes a record into an area of its size.
@@ -162,10 +151,7 @@ fn write_record<S: ParamSet>(out: &mut [u8], counter: u16, digest: &[u8; 32], z:
 // One attempt in areas of its own.
 fn attempt_in<const M: usize, S: ParamSet, P: Multiply<S>, N: Source, W: Source>(
     number: u32,
-    key: &[u32],
-    a: &[u32],
-    digest: &[u8; 32],
-    counter: u16,
+    subject: Subject<'_, S>,
     y: &mut [u32],
     z: &mut [u32],
     r: &mut [u32],
@@ -174,21 +160,26 @@ fn attempt_in<const M: usize, S: ParamSet, P: Multiply<S>, N: Source, W: Source>
     nonces: &mut N,
     masks: &mut W,
 ) -> Result<bool, Stopped>
-    requires some { 0 < M }
-    requires most { M ≤ 8 }
-    requires key { (length key.now ≡ 2 * M * S.params.n) × (Residues S.params.p key.now) }
-    requires a { Proper S.params.n S.params.p a.now }
+    requires shares { M ≡ subject.shares }
     requires work { (length y.old ≡ 2 * M * S.params.n) × ((length z.old ≡ 2 * M * S.params.n) × ((length r.old ≡ M * S.params.n) × (length opened.old ≡ S.params.n))) }
     requires record { length «record».old ≡ size S.params }
-    ensures { Attempts S.params M (subject_of S.params M a.now key.now digest.now counter) number result «record».old «record».new (N.flow nonces.old) (N.flow nonces.new) (W.flow masks.old) (W.flow masks.new) }
+    ensures { Attempts S.params M (subject_of S.params M subject.entry.a.now subject.entry.key.now subject.entry.digest.now subject.entry.counter) number result «record».old «record».new (N.flow nonces.old) (N.flow nonces.new) (W.flow masks.old) (W.flow masks.new) }
 {
     let n = S::degree();
+    let Subject {
+        key,
+        a,
+        digest,
+        counter,
+        ..
+    } = subject;
     let drawn = Drawn::draw::<M, S, N, W>(number, y, nonces, masks)?;
     let committed = drawn.commit::<M, S, P, W>(opened, r, a, y, masks)?;
     // The shares of the commitment are of no more use.
     let c = &mut r[0..n];
-    challenge::<S>(c, opened, digest, counter);
-    let mut room = answer_room();
+    challenge::<S>(c, opened, digest, subject.counter);
+    // Room for the answer of the largest set.
+    let mut room = [0; 2048];
     let answer = &mut room[0..2 * n];
     let passed = committed.close::<M, S, P, W>(answer, z, key, y, c, masks)?;
     if passed {
@@ -200,29 +191,21 @@ fn attempt_in<const M: usize, S: ParamSet, P: Multiply<S>, N: Source, W: Source>
 /// One attempt, from its first draw to its record, which is written if it passes.
 pub fn attempt<const M: usize, S: ParamSet, P: Multiply<S>, N: Source, W: Source>(
     number: u32,
-    key: &[u32],
-    a: &[u32],
-    digest: &[u8; 32],
-    counter: u16,
+    subject: Subject<'_, S>,
     work: &mut [u32],
     record: &mut [u8],
     nonces: &mut N,
     masks: &mut W,
 ) -> Result<bool, Stopped>
-    requires some { 0 < M }
-    requires most { M ≤ 8 }
-    requires key { (length key.now ≡ 2 * M * S.params.n) × (Residues S.params.p key.now) }
-    requires a { Proper S.params.n S.params.p a.now }
+    requires shares { M ≡ subject.shares }
     requires work { length work.old ≡ 6 * M * S.params.n }
     requires record { length «record».old ≡ size S.params }
-    ensures { Attempts S.params M (subject_of S.params M a.now key.now digest.now counter) number result «record».old «record».new (N.flow nonces.old) (N.flow nonces.new) (W.flow masks.old) (W.flow masks.new) }
+    ensures { Attempts S.params M (subject_of S.params M subject.entry.a.now subject.entry.key.now subject.entry.digest.now subject.entry.counter) number result «record».old «record».new (N.flow nonces.old) (N.flow nonces.new) (W.flow masks.old) (W.flow masks.new) }
 {
     let n = S::degree();
     let (y, rest) = work.split_at_mut(2 * M * n);
     let (z, rest) = rest.split_at_mut(2 * M * n);
     let (r, rest) = rest.split_at_mut(M * n);
     let opened = &mut rest[0..n];
-    attempt_in::<M, S, P, N, W>(
-        number, key, a, digest, counter, y, z, r, opened, record, nonces, masks,
-    )
+    attempt_in::<M, S, P, N, W>(number, subject, y, z, r, opened, record, nonces, masks)
 }
