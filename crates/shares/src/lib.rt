@@ -21,6 +21,24 @@ use words::{Mark, Source};
 /// One value in `M` shares, each below the group's order.
 pub type Shares<const M: usize> = [u32; M];
 
+/// A call at a share count from 1 to 8 that is known when the program runs, as `at_share_count!(shares, sign::<_, S>(key))`.
+#[macro_export]
+macro_rules! at_share_count {
+    ($shares:expr, $call:ident::<_ $(, $kind:ty)*>($($argument:expr),* $(,)?)) => {
+        match $shares {
+            1 => $call::<1 $(, $kind)*>($($argument),*),
+            2 => $call::<2 $(, $kind)*>($($argument),*),
+            3 => $call::<3 $(, $kind)*>($($argument),*),
+            4 => $call::<4 $(, $kind)*>($($argument),*),
+            5 => $call::<5 $(, $kind)*>($($argument),*),
+            6 => $call::<6 $(, $kind)*>($($argument),*),
+            7 => $call::<7 $(, $kind)*>($($argument),*),
+            8 => $call::<8 $(, $kind)*>($($argument),*),
+            _ => unreachable(),
+        }
+    };
+}
+
 /// A commutative group on the words below its order.
 pub trait Group {
     ghost rule: { Self → Rule };
