@@ -4,6 +4,7 @@ ghost use Rattle.polys.specs.Area.{recombined, row, values};
 ghost use Rattle.ring.specs.Laws.{Proper};
 ghost use Rattle.ring.specs.Ring.{Residues, plus, product};
 
+use crate::shared::Shared;
 use params::ParamSet;
 use ring::{Multiply, add_assign};
 
@@ -19,48 +20,49 @@ pub fn multiply_add<S: ParamSet, P: Multiply<S>>(out: &mut [u32], a: &[u32], b: 
     add_assign::<S>(out, c);
 }
 
-// Row j of an area.
-fn row(area: &[u32], n: usize, j: usize) -> &[u32]
-    requires { (j + 1) * n ≤ length area.now }
-    ensures { result.now ≡ row n j area.now }
-{
-    &area[j * n..j * n + n]
+impl<'a, const K: usize, const M: usize, S: ParamSet> Shared<'a, K, M, S> {
+    // Row j of the area.
+    fn row(self, j: usize) -> &'a [u32]
+        requires { j < K * M }
+        ensures is { result.now ≡ row S.params.n j self.entry.area.now }
+        ensures proper { Proper S.params.n S.params.p result.now }
+    {
+        let n = S::degree();
+        &self.area[j * n..j * n + n]
+    }
 }
 
 /// Shares of a·y1 + y2, for the shares of y1 and y2 in the area y.
-pub fn commit_rows<const M: usize, S: ParamSet, P: Multiply<S>>(r: &mut [u32], a: &[u32], y: &[u32])
-    requires some { 0 < M }
-    requires most { M ≤ 8 }
+pub fn commit_rows<const M: usize, S: ParamSet, P: Multiply<S>>(
+    r: &mut [u32],
+    a: &[u32],
+    y: Shared<'_, 2, M, S>,
+)
     requires r { length r.old ≡ M * S.params.n }
     requires a { Proper S.params.n S.params.p a.now }
-    requires y { length y.now ≡ 2 * M * S.params.n }
-    requires residues { Residues S.params.p y.now }
-    ensures value { values S.params M S.params.n r.new ≡ plus S.params.p (product S.params.p a.now (take S.params.n (recombined S.params M y.now))) (drop S.params.n (recombined S.params M y.now)) }
+    ensures value { values S.params M S.params.n r.new ≡ plus S.params.p (product S.params.p a.now (take S.params.n (recombined S.params M y.entry.area.now))) (drop S.params.n (recombined S.params M y.entry.area.now)) }
     ensures residues { Residues S.params.p r.new }
 {
     let n = S::degree();
     'shares: for i in 0..M {
-        multiply_add::<S, P>(&mut r[i * n..i * n + n], a, row(y, n, i), row(y, n, M + i));
+        multiply_add::<S, P>(&mut r[i * n..i * n + n], a, y.row(i), y.row(M + i));
     }
 }
 
 /// Shares of s1·c + y1 and s2·c + y2, for the shares of s1 and s2 in the key area, and of y1 and y2 in the area y.
 pub fn respond_rows<const M: usize, S: ParamSet, P: Multiply<S>>(
     z: &mut [u32],
-    key: &[u32],
-    y: &[u32],
+    key: Shared<'_, 2, M, S>,
+    y: Shared<'_, 2, M, S>,
     c: &[u32],
 )
-    requires some { 0 < M }
-    requires most { M ≤ 8 }
-    requires sized { (length z.old ≡ 2 * M * S.params.n) × ((length key.now ≡ 2 * M * S.params.n) × (length y.now ≡ 2 * M * S.params.n)) }
-    requires residues { (Residues S.params.p key.now) × (Residues S.params.p y.now) }
+    requires z { length z.old ≡ 2 * M * S.params.n }
     requires c { Proper S.params.n S.params.p c.now }
-    ensures value { recombined S.params M z.new ≡ plus S.params.p (product S.params.p (take S.params.n (recombined S.params M key.now)) c.now) (take S.params.n (recombined S.params M y.now)) ++ plus S.params.p (product S.params.p (drop S.params.n (recombined S.params M key.now)) c.now) (drop S.params.n (recombined S.params M y.now)) }
+    ensures value { recombined S.params M z.new ≡ plus S.params.p (product S.params.p (take S.params.n (recombined S.params M key.entry.area.now)) c.now) (take S.params.n (recombined S.params M y.entry.area.now)) ++ plus S.params.p (product S.params.p (drop S.params.n (recombined S.params M key.entry.area.now)) c.now) (drop S.params.n (recombined S.params M y.entry.area.now)) }
     ensures residues { Residues S.params.p z.new }
 {
     let n = S::degree();
     'rows: for j in 0..2 * M {
-        multiply_add::<S, P>(&mut z[j * n..j * n + n], row(key, n, j), c, row(y, n, j));
+        multiply_add::<S, P>(&mut z[j * n..j * n + n], key.row(j), c, y.row(j));
     }
 }

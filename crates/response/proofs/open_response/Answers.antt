@@ -7,7 +7,6 @@ use Rattle.shares.specs.Refresh.{pairs}
 use Rattle.shares.specs.Rule.{recombine}
 use Rattle.polys.specs.Area.{shares_of}
 use Rattle.polys.proofs.Filling.{filling-more, filling-all, filling-short}
-use Rattle.polys.proofs.Places.{polynomial-inside}
 use Rattle.response.proofs.Nearness.{near_value, centred_values}
 use Rattle.response.proofs.open_response.Goals as goal
 
@@ -18,13 +17,7 @@ open_centred-requires g c =
     let small = g.S.ParamSet.sound.reach_small in
     let n = c.coefficients-c-end.ensures in
     let h : c.coefficients.c < 2 * s.n = omega arith in
-    record {
-      some = c.requires.some;
-      most = c.requires.most;
-      inside = polynomial-inside s.n g.row.M (omega arith) 2 c.coefficients.c c.args.z.now h c.requires.sized;
-      residues = c.requires.residues;
-      near = let d = near_value s g.row.M c.args.z.now c.coefficients.c c.requires.near h in omega arith;
-    }
+    (search rules, (h, let d = near_value s g.row.M c.args.z.area.now c.coefficients.c c.requires.near h in omega arith))
 
 pub coefficients-preserved : goal.coefficients-preserved
 coefficients-preserved g c =
@@ -42,7 +35,7 @@ returns-in_err-out g c =
 pub returns : goal.returns
 returns g c =
     let s = g.S.ParamSet.params in
-    let z = c.args.z.now in
+    let z = c.args.z.area.now in
     let n = c.coefficients-c-end.ensures in
     let all = filling-all (pos 0) (λ (k : ℕ). centre s.p (recombine (residue_rule s.p) (shares_of s.n g.row.M z k))) ((residue_rule s.p).cost * pairs g.row.M) (g.W.Source.flow c.args.masks.now) (2 * s.n) c.coefficients.c c.coefficients.out (g.W.Source.flow c.coefficients.masks) (omega arith) (c.coefficients.auto.out ∙ c.requires.out) c.coefficients.invariant in
     record { by = (all.0, all.1 ∙ centred_values s g.row.M z) }

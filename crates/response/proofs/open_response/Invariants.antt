@@ -11,4 +11,4 @@ abbrev pub invariant-coefficients : goal.invariant-coefficients
 invariant-coefficients g l =
     let s = g.S.ParamSet.params in
     let u = residue_rule s.p in
-    Filling (pos 0) (λ (c : ℕ). centre s.p (recombine u (shares_of s.n g.row.M l.z c))) (u.cost * pairs g.row.M) (g.W.Source.flow l.initial.masks) l.c l.out (g.W.Source.flow l.masks)
+    Filling (pos 0) (λ (c : ℕ). centre s.p (recombine u (shares_of s.n g.row.M l.z.area.now c))) (u.cost * pairs g.row.M) (g.W.Source.flow l.initial.masks) l.c l.out (g.W.Source.flow l.masks)

@@ -8,15 +8,7 @@ use Rattle.response.proofs.Nearness.{passing-none, passing-more, passing-all, pa
 use Rattle.response.proofs.pass.Goals as goal
 
 pub coefficients-init : goal.coefficients-init
-coefficients-init g c = passing-none g.S.ParamSet.params g.row.M c.args.z.now (g.W.Source.flow c.args.masks.now) c.public-pass.result (word_public g.row.M 1 c.requires.some c.public-pass.ensures)
-
-pub coefficient-shares-requires : goal.coefficient-shares-requires
-coefficient-shares-requires g c =
-    let s = g.S.ParamSet.params in
-    let least = g.S.ParamSet.sound.n_least in
-    let n = c.coefficients-c-end.ensures in
-    let inside = polynomial-inside s.n g.row.M (omega arith) 2 c.coefficients.c c.args.z.now (omega arith) c.requires.sized in
-    (search rules, (c.requires.most, (inside, c.requires.residues)))
+coefficients-init g c = passing-none g.S.ParamSet.params g.row.M c.args.z.area.now (g.W.Source.flow c.args.masks.now) c.public-pass.result (word_public g.row.M 1 c.args.z.some c.public-pass.ensures)
 
 pub check_coefficient-requires : goal.check_coefficient-requires
 check_coefficient-requires g c =
@@ -24,29 +16,29 @@ check_coefficient-requires g c =
     let p = c.of-ring.ensures in
     let r = c.reach.ensures in
     let h = g.S.ParamSet.sound.k_below_p in
-    (search rules, (c.requires.some, (subst (λ (p : ℕ). Within (residue_rule p) c.coefficient-shares.result) (sym p) c.coefficient-shares.ensures.within, omega arith)))
+    (search rules, (c.args.z.some, (subst (λ (p : ℕ). Within (residue_rule p) c.coefficient.result) (sym p) c.coefficient.ensures.within, omega arith)))
 
 pub coefficients-preserved : goal.coefficients-preserved
 coefficients-preserved g c =
     let s = g.S.ParamSet.params in
-    let z = c.args.z.now in
+    let z = c.args.z.area.now in
     let least = g.S.ParamSet.sound.n_least in
     let near = g.S.ParamSet.sound.k_below_p in
     let some = g.S.ParamSet.sound.alpha_below_k in
     let n = c.coefficients-c-end.ensures in
-    let inside = polynomial-inside s.n g.row.M (omega arith) 2 c.coefficients.c z (omega arith) c.requires.sized in
-    let below = value-below s g.row.M c.coefficients.c z (omega arith) (omega arith) inside c.requires.residues in
+    let inside = polynomial-inside s.n g.row.M (omega arith) 2 c.coefficients.c z (omega arith) c.args.z.sized in
+    let below = value-below s g.row.M c.coefficients.c z (omega arith) (omega arith) inside c.args.z.residues in
     let d = c.in_ok-pass.ensures.by in
-    passing-more s g.row.M z (g.W.Source.flow c.args.masks.now) c.coefficients.c c.coefficient-shares.result c.coefficients.pass c.in_ok-pass.pass c.of-ring.result.p c.reach.result
-    c.of-ring.ensures c.reach.ensures c.coefficient-shares.ensures.shares below (omega arith) d.0 d.1 c.coefficients.invariant
+    passing-more s g.row.M z (g.W.Source.flow c.args.masks.now) c.coefficients.c c.coefficient.result c.coefficients.pass c.in_ok-pass.pass c.of-ring.result.p c.reach.result
+    c.of-ring.ensures c.reach.ensures c.coefficient.ensures.shares below (omega arith) d.0 d.1 c.coefficients.invariant
 
 pub returns-in_err-pass : goal.returns-in_err-pass
 returns-in_err-pass g c =
     let n = c.coefficients-c-end.ensures in
     let p = err_from_is_err_and c.from_residual.result c.from_residual.ensures.1 in
-    rw (p.1, p.2) record { by = passing-short g.S.ParamSet.params g.row.M c.args.z.now (g.W.Source.flow c.args.masks.now) c.coefficients.c c.coefficients.pass _ _ _ (omega arith) c.in_err-pass.ensures.by c.coefficients.invariant }
+    rw (p.1, p.2) record { by = passing-short g.S.ParamSet.params g.row.M c.args.z.area.now (g.W.Source.flow c.args.masks.now) c.coefficients.c c.coefficients.pass _ _ _ (omega arith) c.in_err-pass.ensures.by c.coefficients.invariant }
 
 pub returns : goal.returns
 returns g c =
     let n = c.coefficients-c-end.ensures in
-    record { by = passing-all g.S.ParamSet.params g.row.M c.args.z.now (g.W.Source.flow c.args.masks.now) c.coefficients.c c.coefficients.pass (g.W.Source.flow c.coefficients.masks) (omega arith) c.coefficients.invariant }
+    record { by = passing-all g.S.ParamSet.params g.row.M c.args.z.area.now (g.W.Source.flow c.args.masks.now) c.coefficients.c c.coefficients.pass (g.W.Source.flow c.coefficients.masks) (omega arith) c.coefficients.invariant }

@@ -8,4 +8,4 @@ abbrev pub invariant-shares : goal.invariant-shares
 invariant-shares g l =
     let n = g.S.ParamSet.params.n in
     let p = g.S.ParamSet.params.p in
-    Written n (λ (k : ℕ). plus p (product p l.a (row n k l.y)) (row n (g.row.M + k) l.y)) l.i l.r
+    Written n (λ (k : ℕ). plus p (product p l.a (row n k l.y.area.now)) (row n (g.row.M + k) l.y.area.now)) l.i l.r

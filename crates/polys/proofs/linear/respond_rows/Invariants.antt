@@ -8,4 +8,4 @@ abbrev pub invariant-rows : goal.invariant-rows
 invariant-rows g l =
     let n = g.S.ParamSet.params.n in
     let p = g.S.ParamSet.params.p in
-    Written n (λ (k : ℕ). plus p (product p (row n k l.key) l.c) (row n k l.y)) l.j l.z
+    Written n (λ (k : ℕ). plus p (product p (row n k l.key.area.now) l.c) (row n k l.y.area.now)) l.j l.z

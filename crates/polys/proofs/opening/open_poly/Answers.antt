@@ -1,30 +1,13 @@
-use Rattle.std.proofs.Common.{◌≡◌, ℕ, ◌*◌, ◌<◌, List, length, sym, ap, ◌∙◌, subst, one-mul, arith, rules}
+use Rattle.std.proofs.Common.{◌≡◌, ℕ, ◌*◌, ◌<◌, length, sym, ◌∙◌, subst, arith, rules}
 use Rattle.std.proofs.lemmas.Result.{err_from_is_err_and}
-use Rattle.params.specs.Params.{Params}
 use Rattle.ring.specs.Ring.{Residues}
 use Rattle.shares.specs.Groups.{residue_rule}
 use Rattle.shares.specs.Refresh.{pairs}
 use Rattle.shares.specs.Rule.{recombine}
 use Rattle.polys.specs.Area.{shares_of, values}
-use Rattle.polys.proofs.Places.{polynomial-inside, values-residues}
+use Rattle.polys.proofs.Places.{values-residues}
 use Rattle.polys.proofs.Filling.{filling-more, filling-all, filling-short}
 use Rattle.polys.proofs.opening.open_poly.Goals as goal
-
-one-polynomial : (s : Params) (m : ℕ) (r : List ℕ) → length r ≡ m * s.n → length r ≡ 1 * m * s.n
-one-polynomial s m r e = e ∙ ap (λ (k : ℕ). k * s.n) (sym (one-mul m))
-
-pub open_coefficient-requires : goal.open_coefficient-requires
-open_coefficient-requires g c =
-    let s = g.S.ParamSet.params in
-    let least = g.S.ParamSet.sound.n_least in
-    let n = c.degree-c-end.ensures in
-    let h : c.coefficients.c < s.n = omega arith in
-    record {
-      some = c.requires.some;
-      most = c.requires.most;
-      inside = polynomial-inside s.n g.row.M (omega arith) 1 c.coefficients.c c.args.r.now (omega arith) (one-polynomial s g.row.M c.args.r.now c.requires.r);
-      residues = c.requires.residues;
-    }
 
 pub coefficients-preserved : goal.coefficients-preserved
 coefficients-preserved g c =
@@ -42,7 +25,7 @@ pub returns : goal.returns
 unfolding values
 returns g c =
     let s = g.S.ParamSet.params in
-    let r = c.args.r.now in
+    let r = c.args.r.area.now in
     let least = g.S.ParamSet.sound.n_least in
     let big : 1 < s.p = let h = g.S.ParamSet.sound.k_below_p in let a = g.S.ParamSet.sound.alpha_below_k in omega arith in
     let n = c.degree-c-end.ensures in
@@ -50,5 +33,5 @@ returns g c =
     let all = filling-all 0 (λ (k : ℕ). recombine (residue_rule s.p) (shares_of s.n g.row.M r k)) ((residue_rule s.p).cost * pairs g.row.M) (g.W.Source.flow c.args.masks.now) s.n c.coefficients.c c.coefficients.out (g.W.Source.flow c.coefficients.masks) e (c.coefficients.auto.out ∙ c.requires.out) c.coefficients.invariant in
     record {
       opened = record { by = all };
-      residues = subst (Residues s.p) (sym all.1) (values-residues s g.row.M 1 s.n r (omega arith) big (omega arith) (one-polynomial s g.row.M r c.requires.r) c.requires.residues);
+      residues = subst (Residues s.p) (sym all.1) (values-residues s g.row.M 1 s.n r (omega arith) big (omega arith) c.args.r.sized c.args.r.residues);
     }

@@ -10,4 +10,4 @@ abbrev pub invariant-coefficients : goal.invariant-coefficients
 invariant-coefficients g l =
     let s = g.S.ParamSet.params in
     let u = residue_rule s.p in
-    Filling 0 (λ (c : ℕ). recombine u (shares_of s.n g.row.M l.r c)) (u.cost * pairs g.row.M) (g.W.Source.flow l.initial.masks) l.c l.out (g.W.Source.flow l.masks)
+    Filling 0 (λ (c : ℕ). recombine u (shares_of s.n g.row.M l.r.area.now c)) (u.cost * pairs g.row.M) (g.W.Source.flow l.initial.masks) l.c l.out (g.W.Source.flow l.masks)
