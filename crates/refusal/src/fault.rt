@@ -13,7 +13,7 @@ pub struct Counts {
     pub masks: u64,
 }
 
-/// A coefficient of a nonce: of y1 or of y2, and its index there.
+/// A coefficient of a nonce: of y1 or of y2, and its index there. The polynomial is the 1 or 2 that is told; nothing branches on it.
 #[derive(Clone, Copy, Debug, PartialEq, Eq)]
 pub struct Coefficient {
     pub polynomial: u8,

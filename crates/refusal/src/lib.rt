@@ -1,12 +1,14 @@
 // Why a call was refused: its number, and what it names.
 #![tactic(auto)]
 
-ghost use Rattle.refusal.specs.Told.{number_of, area_name, counts_text, fault_text, step_text, told};
+ghost use Rattle.refusal.specs.Told.{number_of, area_name, coefficient_text, counts_text, fault_text, step_text, told};
 ghost use Rattle.std.specs.Prelude.{◌≡◌, Some};
 
 pub mod fault;
+mod residues;
 
 pub use fault::{Coefficient, Counts, Fault, Step};
+pub use residues::check_residues;
 use std::fmt;
 use words::Mark;
 
@@ -56,7 +58,7 @@ pub enum Refusal {
 }
 
 impl Refusal {
-    // The number by which the refusal is known.
+    // The number by which those outside know the refusal: two ends of the masks have the same one.
     pub fn number(&self) -> u8
         ensures { result ≡ number_of self.now }
     {
@@ -74,8 +76,7 @@ impl Refusal {
             Refusal::SourceRange => 11,
             Refusal::CounterEnd => 20,
             Refusal::NoncesEndedAt { .. } => 21,
-            Refusal::MasksEnded { .. } => 22,
-            Refusal::MasksEndedAt { .. } => 22,
+            Refusal::MasksEnded { .. } | Refusal::MasksEndedAt { .. } => 22,
             Refusal::TriesFailed { .. } => 23,
             Refusal::Stale => 24,
         }
@@ -105,22 +106,25 @@ impl fmt::Display for Counts {
     }
 }
 
+impl fmt::Display for Coefficient {
+    ghost output = { λ at. Some (coefficient_text at) };
+
+    fn fmt<W: fmt::Write>(&self, f: &mut fmt::Formatter<W>) -> fmt::Result {
+        write!(
+            f,
+            "polynomial {} coefficient {}",
+            self.polynomial, self.index
+        )
+    }
+}
+
 impl fmt::Display for Step {
     ghost output = { λ s. Some (step_text s) };
 
     fn fmt<W: fmt::Write>(&self, f: &mut fmt::Formatter<W>) -> fmt::Result {
         let number = self.number();
         match self {
-            Step::Candidate(at) => write!(
-                f,
-                "{number} polynomial {} coefficient {}",
-                at.polynomial, at.index
-            ),
-            Step::Conversion(at) => write!(
-                f,
-                "{number} polynomial {} coefficient {}",
-                at.polynomial, at.index
-            ),
+            Step::Candidate(at) | Step::Conversion(at) => write!(f, "{number} {at}"),
             _ => write!(f, "{number}"),
         }
     }
@@ -147,22 +151,15 @@ impl fmt::Display for Refusal {
         let number = self.number();
         match self {
             Refusal::NotResidue { area, index } => write!(f, "{number} area {area} index {index}"),
-            Refusal::NotTernary { index } => write!(f, "{number} index {index}"),
-            Refusal::OutOfReach { index } => write!(f, "{number} index {index}"),
-            Refusal::UnusedCode { index } => write!(f, "{number} index {index}"),
+            Refusal::NotTernary { index }
+            | Refusal::OutOfReach { index }
+            | Refusal::UnusedCode { index } => write!(f, "{number} index {index}"),
             Refusal::MasksEnded { mark } => write!(f, "{number} mark {}", mark.number()),
-            Refusal::NoncesEndedAt { fault, counts } => write!(f, "{number} {fault} {counts}"),
-            Refusal::MasksEndedAt { fault, counts } => write!(f, "{number} {fault} {counts}"),
+            Refusal::NoncesEndedAt { fault, counts } | Refusal::MasksEndedAt { fault, counts } => {
+                write!(f, "{number} {fault} {counts}")
+            }
             Refusal::TriesFailed { counts } => write!(f, "{number} {counts}"),
-            Refusal::ShareCount => write!(f, "{number}"),
-            Refusal::AreaSize => write!(f, "{number}"),
-            Refusal::Tries => write!(f, "{number}"),
-            Refusal::RecordSize => write!(f, "{number}"),
-            Refusal::Kind => write!(f, "{number}"),
-            Refusal::OtherChallenge => write!(f, "{number}"),
-            Refusal::SourceRange => write!(f, "{number}"),
-            Refusal::CounterEnd => write!(f, "{number}"),
-            Refusal::Stale => write!(f, "{number}"),
+            _ => write!(f, "{number}"),
         }
     }
 }

@@ -1,14 +1,14 @@
 -- What a till answers, and what it then holds.
-use Rattle.std.specs.Prelude.{◌≡◌, ℕ, ◌*◌, Bool, true, List, [], ◌∷◌, ◌++◌, length, Some, None, Ok, Err, Option, Result, ◌==◌, nat_le, nat_lt}
+use Rattle.std.specs.Prelude.{◌≡◌, ℕ, ◌*◌, Bool, true, List, [], ◌∷◌, ◌++◌, length, Some, None, Ok, Err, Option, Result, ◌==◌, nat_lt}
 use Rattle.std.specs.Str.{bytes_eq}
 use Rattle.params.specs.Params.{Params}
 use Rattle.refusal.specs.declared.Refusal.{Refusal}
-use Rattle.refusal.specs.declared.Refusal.TheVariants.{AreaSize, NotResidue, OtherChallenge, Stale}
+use Rattle.refusal.specs.declared.Refusal.TheVariants.{AreaSize, OtherChallenge, Stale}
 use Rattle.refusal.specs.declared.Area.TheVariants.{Public}
 use Rattle.record.specs.Layout.{decode}
-use Rattle.refusal.specs.Tests.{unless, at_index, first_hit}
+use Rattle.refusal.specs.Residues.{residue_test}
+use Rattle.refusal.specs.Tests.{unless, first_hit}
 use Rattle.record.specs.Reading.{record_tests}
-use Rattle.search.specs.First.{first_at}
 use Rattle.till.specs.Verification.{PublicKey, Verifies, expected}
 use Rattle.till.specs.declared.payment.Payment.{Payment}
 
@@ -22,7 +22,7 @@ abbrev pub size_test : Params → List ℕ → Option Refusal
 size_test s key = unless (length key == 2 * s.n) AreaSize
 
 abbrev pub word_test : Params → List ℕ → Option Refusal
-word_test s key = at_index (NotResidue Public) (first_at (nat_le s.p) key)
+word_test s key = residue_test Public s.p key
 
 abbrev pub challenge_test : Params → List ℕ → List ℕ → Option Refusal
 challenge_test s key bytes = unless (bytes_eq (expected s key (decode s bytes)) (decode s bytes).c) OtherChallenge

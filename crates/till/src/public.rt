@@ -3,8 +3,7 @@ ghost use Rattle.std.specs.Result.{MatchResult};
 ghost use Rattle.till.specs.Verdict.{TestsKey};
 
 use params::ParamSet;
-use refusal::{Area, Refusal};
-use search::first_at_least;
+use refusal::{Area, Refusal, check_residues};
 
 // A public key has its size, and each word is a residue.
 pub(crate) fn check_key<S: ParamSet>(key: &[u32]) -> Result<(), Refusal>
@@ -13,11 +12,5 @@ pub(crate) fn check_key<S: ParamSet>(key: &[u32]) -> Result<(), Refusal>
     if key.len() != 2 * S::degree() {
         return Err(Refusal::AreaSize);
     }
-    match first_at_least(key, S::modulus()) {
-        Some(index) => Err(Refusal::NotResidue {
-            area: Area::Public,
-            index,
-        }),
-        None => Ok(()),
-    }
+    check_residues(Area::Public, key, S::modulus())
 }
