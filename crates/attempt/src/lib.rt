@@ -20,7 +20,7 @@ pub mod subject;
 use challenge::challenge;
 use drawing::{Halt, draw};
 use params::ParamSet;
-use polys::{commit_rows, open_poly, respond_rows};
+use polys::{Shared, commit_rows, open_poly, respond_rows};
 use record::write;
 use refusal::{Fault, Step};
 use response::{check, open_response};
@@ -36,25 +36,27 @@ fn stop_at(number: u32, halt: Halt) -> Stopped
     ensures outcome { outcome_of result ≡ halted halt number }
     ensures number { attempt_of result ≡ number }
 {
+    let attempt = number;
+    let step = halt.step;
     match halt.ended {
-        Ended::Nonces(mark) => Stopped::Nonces(Fault {
+        Ended::Nonces(mark) => Ended::Nonces(Fault {
             mark,
-            attempt: number,
-            step: halt.step,
+            attempt,
+            step,
         }),
-        Ended::Masks(mark) => Stopped::Masks(Fault {
+        Ended::Masks(mark) => Ended::Masks(Fault {
             mark,
-            attempt: number,
-            step: halt.step,
+            attempt,
+            step,
         }),
     }
 }
 
 // The masks ended in a step of an attempt.
 fn masks_ended(number: u32, step: Step, mark: Mark) -> Stopped
-    ensures { result ≡ Stopped.Masks (record { mark = mark; attempt = number; step = step }) }
+    ensures { result ≡ Ended.Masks (record { mark = mark; attempt = number; step = step }) }
 {
-    Stopped::Masks(Fault {
+    Ended::Masks(Fault {
         mark,
         attempt: number,
         step,
@@ -85,20 +87,17 @@ impl Drawn {
         opened: &mut [u32],
         shares: &mut [u32],
         a: &[u32],
-        y: &[u32],
+        y: Shared<'_, 2, M, S>,
         masks: &mut W,
     ) -> Result<Committed, Stopped>
-        requires some { 0 < M }
-        requires most { M ≤ 8 }
-        requires sized { (length opened.old ≡ S.params.n) × ((length shares.old ≡ M * S.params.n) × (length y.now ≡ 2 * M * S.params.n)) }
+        requires room { (length opened.old ≡ S.params.n) × (length shares.old ≡ M * S.params.n) }
         requires a { Proper S.params.n S.params.p a.now }
-        requires residues { Residues S.params.p y.now }
-        ensures { Commits S.params M self.number result (commitment_to S.params a.now (recombined S.params M y.now)) opened.new (W.flow masks.old) (W.flow masks.new) }
+        ensures { Commits S.params M self.number result (commitment_to S.params a.now (recombined S.params M y.entry.area.now)) opened.new (W.flow masks.old) (W.flow masks.new) }
     {
         let Drawn { number } = self;
         commit_rows::<M, S, P>(shares, a, y);
-        open_poly::<M, S, W>(opened, shares, masks)
-            .map_err(|mark| masks_ended(number, Step::Commit, mark))?;
+        let r = Shared::<1, M, S>::new(shares);
+        open_poly(opened, r, masks).map_err(|mark| masks_ended(number, Step::Commit, mark))?;
         Ok(Committed { number })
     }
 }
@@ -109,28 +108,23 @@ impl Committed {
         self,
         opened: &mut [i16],
         shares: &mut [u32],
-        key: &[u32],
-        y: &[u32],
+        key: Shared<'_, 2, M, S>,
+        y: Shared<'_, 2, M, S>,
         c: &[u32],
         masks: &mut W,
     ) -> Result<bool, Stopped>
-        requires some { 0 < M }
-        requires most { M ≤ 8 }
         requires room { (length opened.old ≡ 2 * S.params.n) × (length shares.old ≡ 2 * M * S.params.n) }
-        requires sized { (length key.now ≡ 2 * M * S.params.n) × (length y.now ≡ 2 * M * S.params.n) }
-        requires residues { (Residues S.params.p key.now) × (Residues S.params.p y.now) }
         requires c { Proper S.params.n S.params.p c.now }
-        ensures { Closes S.params M self.number result (answer_to S.params (recombined S.params M key.now) c.now (recombined S.params M y.now)) opened.new (W.flow masks.old) (W.flow masks.new) }
+        ensures { Closes S.params M self.number result (answer_to S.params (recombined S.params M key.entry.area.now) c.now (recombined S.params M y.entry.area.now)) opened.new (W.flow masks.old) (W.flow masks.new) }
     {
         let Committed { number } = self;
         respond_rows::<M, S, P>(shares, key, y, c);
-        let passes = check::<M, S, W>(shares, masks)
-            .map_err(|mark| masks_ended(number, Step::Check, mark))?;
+        let z = Shared::<2, M, S>::new(shares);
+        let passes = check(z, masks).map_err(|mark| masks_ended(number, Step::Check, mark))?;
         if !passes {
             return Ok(false);
         }
-        open_response::<M, S, W>(opened, shares, masks)
-            .map_err(|mark| masks_ended(number, Step::Open, mark))?;
+        open_response(opened, z, masks).map_err(|mark| masks_ended(number, Step::Open, mark))?;
         Ok(true)
     }
 }
@@ -174,6 +168,7 @@ fn attempt_in<const M: usize, S: ParamSet, P: Multiply<S>, N: Source, W: Source>
         ..
     } = subject;
     let drawn = Drawn::draw::<M, S, N, W>(number, y, nonces, masks)?;
+    let y = Shared::<2, M, S>::new(y);
     let committed = drawn.commit::<M, S, P, W>(opened, r, a, y, masks)?;
     // The shares of the commitment are of no more use.
     let c = &mut r[0..n];
@@ -181,6 +176,7 @@ fn attempt_in<const M: usize, S: ParamSet, P: Multiply<S>, N: Source, W: Source>
     // Room for the answer of the largest set.
     let mut room = [0; 2048];
     let answer = &mut room[0..2 * n];
+    let key = Shared::<2, M, S>::new(key);
     let passed = committed.close::<M, S, P, W>(answer, z, key, y, c, masks)?;
     if passed {
         write_record::<S>(record, counter, digest, answer, c);
