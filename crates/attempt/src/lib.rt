@@ -142,48 +142,6 @@ fn write_record<S: ParamSet>(out: &mut [u8], counter: u16, digest: &[u8; 32], z:
     }
 }
 
-// One attempt in areas of its own.
-fn attempt_in<const M: usize, S: ParamSet, P: Multiply<S>, N: Source, W: Source>(
-    number: u32,
-    subject: Subject<'_, S>,
-    y: &mut [u32],
-    z: &mut [u32],
-    r: &mut [u32],
-    opened: &mut [u32],
-    record: &mut [u8],
-    nonces: &mut N,
-    masks: &mut W,
-) -> Result<bool, Stopped>
-    requires shares { M ≡ subject.shares }
-    requires work { (length y.old ≡ 2 * M * S.params.n) × ((length z.old ≡ 2 * M * S.params.n) × ((length r.old ≡ M * S.params.n) × (length opened.old ≡ S.params.n))) }
-    requires record { length «record».old ≡ size S.params }
-    ensures { Attempts S.params M (subject_of S.params M subject.entry.a.now subject.entry.key.now subject.entry.digest.now subject.entry.counter) number result «record».old «record».new (N.flow nonces.old) (N.flow nonces.new) (W.flow masks.old) (W.flow masks.new) }
-{
-    let n = S::degree();
-    let Subject {
-        key,
-        a,
-        digest,
-        counter,
-        ..
-    } = subject;
-    let drawn = Drawn::draw::<M, S, N, W>(number, y, nonces, masks)?;
-    let y = Shared::<2, M, S>::new(y);
-    let committed = drawn.commit::<M, S, P, W>(opened, r, a, y, masks)?;
-    // The shares of the commitment are of no more use.
-    let c = &mut r[0..n];
-    challenge::<S>(c, opened, digest, subject.counter);
-    // Room for the answer of the largest set.
-    let mut room = [0; 2048];
-    let answer = &mut room[0..2 * n];
-    let key = Shared::<2, M, S>::new(key);
-    let passed = committed.close::<M, S, P, W>(answer, z, key, y, c, masks)?;
-    if passed {
-        write_record::<S>(record, counter, digest, answer, c);
-    }
-    Ok(passed)
-}
-
 /// One attempt, from its first draw to its record, which is written if it passes.
 pub fn attempt<const M: usize, S: ParamSet, P: Multiply<S>, N: Source, W: Source>(
     number: u32,
@@ -203,5 +161,26 @@ pub fn attempt<const M: usize, S: ParamSet, P: Multiply<S>, N: Source, W: Source
     let (z, rest) = rest.split_at_mut(2 * M * n);
     let (r, rest) = rest.split_at_mut(M * n);
     let opened = &mut rest[0..n];
-    attempt_in::<M, S, P, N, W>(number, subject, y, z, r, opened, record, nonces, masks)
+    let Subject {
+        key,
+        a,
+        digest,
+        counter,
+        ..
+    } = subject;
+    let drawn = Drawn::draw::<M, S, N, W>(number, y, nonces, masks)?;
+    let y = Shared::<2, M, S>::new(y);
+    let committed = drawn.commit::<M, S, P, W>(opened, r, a, y, masks)?;
+    // The shares of the commitment are of no more use.
+    let c = &mut r[0..n];
+    challenge::<S>(c, opened, digest, counter);
+    // Room for the answer of the largest set.
+    let mut room = [0; 2048];
+    let answer = &mut room[0..2 * n];
+    let key = Shared::<2, M, S>::new(key);
+    let passed = committed.close::<M, S, P, W>(answer, z, key, y, c, masks)?;
+    if passed {
+        write_record::<S>(record, counter, digest, answer, c);
+    }
+    Ok(passed)
 }

@@ -1,7 +1,7 @@
 use Rattle.std.proofs.Common.{ℕ, ◌<◌, Ok, refl, arith}
 use Rattle.std.proofs.lemmas.Result.{err_from_is_err_and}
 use Rattle.attempt.proofs.Closing.{attempt-closed, attempt-uncommitted}
-use Rattle.attempt.proofs.attempt_in.Goals as goal
+use Rattle.attempt.proofs.attempt.Goals as goal
 
 pub returns-in_err-committed : goal.returns-in_err-committed
 returns-in_err-committed g c =
