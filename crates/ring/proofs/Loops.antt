@@ -1,8 +1,10 @@
 -- The loops over coefficients, place by place, and the long product's.
-use Rattle.std.proofs.Common.{◌≡◌, ℕ, zero, suc, ◌+◌, ◌-◌, ◌*◌, ◌%◌, ◌^◌, ◌<◌, ◌≤◌, List, [], ◌∷◌, ◌++◌, length, get_or, take, drop, set, replicate, sym, refl, ap, ◌∙◌, ap₂, add-zero, add_assoc, zero-add, arith}
+use Rattle.std.proofs.Common.{◌≡◌, ℕ, zero, suc, ◌+◌, ◌-◌, ◌*◌, ◌%◌, ◌^◌, ◌<◌, ◌≤◌, List, [], ◌∷◌, ◌++◌, length, get_or, take, drop, replicate, sym, refl, ap, ◌∙◌, ap₂, add-zero, add_assoc, zero-add, arith}
 use native.Mathlib.Nat.{add-mod-mod, mod-add-mod}
-use Rattle.std.proofs.lemmas.List.{take_more_set, drop_more, drop-set-lt, drop_all, take_all, append-nil, append_assoc, ext_get_or}
+use Rattle.std.proofs.lemmas.List.{ext_get_or}
 use Rattle.std.proofs.lemmas.Nat.{mul-lt}
+use Rattle.std.specs.List.{slice_get}
+use Rattle.std.specs.Option.{unwrap_or}
 use Rattle.ring.specs.Ring.{Residues, reduced, zip_with, plus, scale, last_of, shift_in, times_x, zeros, product}
 use Rattle.ring.proofs.Polynomials.{cons, length_zip, get_d_zip}
 use Rattle.ring.proofs.Algebra.{product-times_x, length-product, reduced-product}
@@ -20,24 +22,15 @@ zipping_all f xs ys zs i z h d e =
 abbrev pub Shifting : List ℕ → ℕ → ℕ → List ℕ
 Shifting xs carry i = take i xs ++ shift_in carry (drop i xs)
 
-pub shifting_more : (xs : List ℕ) (carry i : ℕ) → i < length xs → Shifting (set xs i carry) (get_or xs i 0) (i + 1) ≡ Shifting xs carry i
-shifting_more xs carry i h =
-    ap₂ (λ (s t : List ℕ). s ++ shift_in (get_or xs i 0) t) (take_more_set xs i carry h) (drop-set-lt (i + 1) xs i carry (omega arith))
-    ∙ append_assoc (take i xs) (carry ∷ []) (shift_in (get_or xs i 0) (drop (i + 1) xs))
-    ∙ sym (ap (λ (t : List ℕ). take i xs ++ shift_in carry t) (drop_more xs i 0 h))
-
-pub shifting_all : (xs : List ℕ) (carry i : ℕ) → length xs ≤ i → Shifting xs carry i ≡ xs
-shifting_all xs carry i h = ap₂ (λ (s t : List ℕ). s ++ shift_in carry t) (take_all i xs h) (drop_all i xs h) ∙ append-nil xs
-
-last_from : (x : ℕ) (xs : List ℕ) → get_or (x ∷ xs) (length xs) 0 ≡ last_of x xs
+last_from : (x : ℕ) (xs : List ℕ) → unwrap_or (slice_get (x ∷ xs) (length xs)) 0 ≡ last_of x xs
 last_from x [] = refl
 last_from x (y ∷ ys) = last_from y ys
 
-pub last_is : (xs : List ℕ) → 0 < length xs → get_or xs (length xs - 1) 0 ≡ last_of 0 xs
-last_is [] h = absurd (omega arith)
-last_is (x ∷ xs) h =
+pub last_is : (xs : List ℕ) → unwrap_or (slice_get xs (length xs - 1)) 0 ≡ last_of 0 xs
+last_is [] = refl
+last_is (x ∷ xs) =
     let e : suc (length xs) - 1 ≡ length xs = omega arith in
-    ap (λ (t : ℕ). get_or (x ∷ xs) t 0) e ∙ last_from x xs
+    ap (λ (t : ℕ). unwrap_or (slice_get (x ∷ xs) t) 0) e ∙ last_from x xs
 
 -- a product of two numbers of 24 bits
 pub small_product : (k x : ℕ) → k < 2 ^ 24 → x < 2 ^ 24 → k * x < 2 ^ 48
