@@ -44,6 +44,7 @@ pub fn commit_rows<const M: usize, S: ParamSet, P: Multiply<S>>(
     ensures residues { Residues S.params.p r.new }
 {
     let n = S::degree();
+    // By index: of the rows that `chunks_exact_mut` lends, nothing is known once they are given back.
     'shares: for i in 0..M {
         multiply_add::<S, P>(&mut r[i * n..i * n + n], a, y.row(i), y.row(M + i));
     }
@@ -62,6 +63,7 @@ pub fn respond_rows<const M: usize, S: ParamSet, P: Multiply<S>>(
     ensures residues { Residues S.params.p z.new }
 {
     let n = S::degree();
+    // By index, as in `commit_rows`.
     'rows: for j in 0..2 * M {
         multiply_add::<S, P>(&mut z[j * n..j * n + n], key.row(j), c, y.row(j));
     }
