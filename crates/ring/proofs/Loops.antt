@@ -3,6 +3,8 @@ use Rattle.std.proofs.Common.{◌≡◌, ℕ, zero, suc, ◌+◌, ◌-◌, ◌*�
 use native.Mathlib.Nat.{add-mod-mod, mod-add-mod}
 use Rattle.std.proofs.lemmas.List.{take_more_set, drop_more, drop-set-lt, drop_all, take_all, append-nil, append_assoc, ext_get_or}
 use Rattle.std.proofs.lemmas.Nat.{mul-lt}
+use Rattle.std.specs.List.{slice_get}
+use Rattle.std.specs.Option.{unwrap_or}
 use Rattle.ring.specs.Ring.{Residues, reduced, zip_with, plus, scale, last_of, shift_in, times_x, zeros, product}
 use Rattle.ring.proofs.Polynomials.{cons, length_zip, get_d_zip}
 use Rattle.ring.proofs.Algebra.{product-times_x, length-product, reduced-product}
@@ -29,15 +31,15 @@ shifting_more xs carry i h =
 pub shifting_all : (xs : List ℕ) (carry i : ℕ) → length xs ≤ i → Shifting xs carry i ≡ xs
 shifting_all xs carry i h = ap₂ (λ (s t : List ℕ). s ++ shift_in carry t) (take_all i xs h) (drop_all i xs h) ∙ append-nil xs
 
-last_from : (x : ℕ) (xs : List ℕ) → get_or (x ∷ xs) (length xs) 0 ≡ last_of x xs
+last_from : (x : ℕ) (xs : List ℕ) → unwrap_or (slice_get (x ∷ xs) (length xs)) 0 ≡ last_of x xs
 last_from x [] = refl
 last_from x (y ∷ ys) = last_from y ys
 
-pub last_is : (xs : List ℕ) → 0 < length xs → get_or xs (length xs - 1) 0 ≡ last_of 0 xs
-last_is [] h = absurd (omega arith)
-last_is (x ∷ xs) h =
+pub last_is : (xs : List ℕ) → unwrap_or (slice_get xs (length xs - 1)) 0 ≡ last_of 0 xs
+last_is [] = refl
+last_is (x ∷ xs) =
     let e : suc (length xs) - 1 ≡ length xs = omega arith in
-    ap (λ (t : ℕ). get_or (x ∷ xs) t 0) e ∙ last_from x xs
+    ap (λ (t : ℕ). unwrap_or (slice_get (x ∷ xs) t) 0) e ∙ last_from x xs
 
 -- a product of two numbers of 24 bits
 pub small_product : (k x : ℕ) → k < 2 ^ 24 → x < 2 ^ 24 → k * x < 2 ^ 48

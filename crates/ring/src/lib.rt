@@ -1,22 +1,52 @@
 // Residues modulo p, and polynomials of n residues modulo xⁿ + 1, for any parameter set.
 #![tactic(auto)]
 
-ghost use Rattle.std.specs.Prelude.{◌≡◌, ◌+◌, ◌-◌, ◌*◌, ◌%◌, ◌^◌, ◌<◌, length, replicate, if◌then◌else◌, nat_le};
+ghost use Rattle.std.specs.Prelude.{◌≡◌, ⊤, ◌+◌, ◌-◌, ◌*◌, ◌%◌, ◌^◌, ◌<◌, length, replicate, if◌then◌else◌, nat_le};
 ghost use Rattle.ring.specs.Ring.{negate, residue, centre, Residues, reduced, zip_with, plus, minus, last_of, shift_in, times_x, zeros, product};
-ghost use Rattle.ring.specs.Laws.{RingLaws, CentringLaws};
+ghost use Rattle.ring.specs.Laws.{Proper, RingLaws, CentringLaws};
 
 use params::ParamSet;
+use std::alloc::AllocError;
+use std::marker::PhantomData;
 
 // The most coefficients that a set may have.
 const MOST: usize = 1024;
 
 // What the definitions come to: a commutative ring with xⁿ = −1, and residues for integers near 0.
-pub fn laws_hold() -> u8
+pub fn laws_hold()
     ensures ring { RingLaws }
     ensures centring { CentringLaws }
-{
-    0
+{}
+
+// A polynomial of the set S that is lent: n words, each a residue. What is written to stays a `&mut [u32]`.
+pub struct Poly<'a, S: ParamSet> {
+    pub words: &'a [u32],
+    set: PhantomData<S>,
+    ghost proper: { Proper S.params.n S.params.p words.now },
 }
+
+impl<'a, S: ParamSet> Poly<'a, S> {
+    pub fn new(words: &'a [u32]) -> Poly<'a, S>
+        requires { Proper S.params.n S.params.p words.now }
+        ensures { result.words.now ≡ words.now }
+    {
+        let set = PhantomData;
+        Poly { words, set }
+    }
+}
+
+// By hand: a derive would ask that S be Copy.
+impl<'a, S: ParamSet> Clone for Poly<'a, S> {
+    ghost is_clone = { λ x y. y ≡ x };
+
+    ghost is_infallible = { λ _. ⊤ };
+
+    fn clone(&self) -> Result<Poly<'a, S>, AllocError> {
+        Ok(*self)
+    }
+}
+
+impl<'a, S: ParamSet> Copy for Poly<'a, S> {}
 
 // The integer nearest 0 that a residue stands for.
 pub fn centred<S: ParamSet>(v: u32) -> i32
@@ -73,36 +103,43 @@ fn sub<S: ParamSet>(x: u32, y: u32) -> u32
 }
 
 // Adds the polynomial x to acc.
-pub fn add_assign<S: ParamSet>(acc: &mut [u32], x: &[u32])
-    requires lengths { (length acc.old ≡ S.params.n) × (length x.now ≡ S.params.n) }
-    requires residues { (Residues S.params.p acc.old) × (Residues S.params.p x.now) }
-    ensures value { acc.new ≡ plus S.params.p acc.old x.now }
+pub fn add_assign<S: ParamSet>(acc: &mut [u32], x: Poly<'_, S>)
+    requires { Proper S.params.n S.params.p acc.old }
+    ensures value { acc.new ≡ plus S.params.p acc.old x.entry.words.now }
     ensures residues { Residues S.params.p acc.new }
 {
-    for i in 0..acc.len() {
-        acc[i] = add::<S>(acc[i], x[i]);
+    for (i, sum) in acc.iter_mut().enumerate() {
+        *sum = add::<S>(*sum, x.words[i]);
     }
 }
 
 // Takes the polynomial x from acc.
-pub fn sub_assign<S: ParamSet>(acc: &mut [u32], x: &[u32])
-    requires lengths { (length acc.old ≡ S.params.n) × (length x.now ≡ S.params.n) }
-    requires residues { (Residues S.params.p acc.old) × (Residues S.params.p x.now) }
-    ensures value { acc.new ≡ minus S.params.p acc.old x.now }
+pub fn sub_assign<S: ParamSet>(acc: &mut [u32], x: Poly<'_, S>)
+    requires { Proper S.params.n S.params.p acc.old }
+    ensures value { acc.new ≡ minus S.params.p acc.old x.entry.words.now }
     ensures residues { Residues S.params.p acc.new }
 {
-    for i in 0..acc.len() {
-        acc[i] = sub::<S>(acc[i], x[i]);
+    for (i, rest) in acc.iter_mut().enumerate() {
+        *rest = sub::<S>(*rest, x.words[i]);
     }
 }
 
-// A way to multiply two polynomials of the set S.
+// A way to multiply two polynomials of the set S. An impl writes `multiply_words`, and callers call `multiply`: a method that an impl writes gets no proof if it takes a type of S.
 pub trait Multiply<S: ParamSet> {
-    fn multiply(out: &mut [u32], a: &[u32], b: &[u32])
-        requires lengths { (length out.old ≡ S.params.n) × ((length a.now ≡ S.params.n) × (length b.now ≡ S.params.n)) }
-        requires residues { (Residues S.params.p a.now) × (Residues S.params.p b.now) }
+    fn multiply_words(out: &mut [u32], a: &[u32], b: &[u32])
+        requires out { length out.old ≡ S.params.n }
+        requires a { Proper S.params.n S.params.p a.now }
+        requires b { Proper S.params.n S.params.p b.now }
         ensures value { out.new ≡ product S.params.p a.now b.now }
         ensures residues { Residues S.params.p out.new };
+
+    final fn multiply(out: &mut [u32], a: Poly<'_, S>, b: Poly<'_, S>)
+        requires { length out.old ≡ S.params.n }
+        ensures value { out.new ≡ product S.params.p a.entry.words.now b.entry.words.now }
+        ensures residues { Residues S.params.p out.new }
+    {
+        Self::multiply_words(out, a.words, b.words)
+    }
 }
 
 // acc + k · x, with no reduction.
@@ -112,16 +149,16 @@ fn add_scaled(acc: &mut [u64], k: u32, x: &[u32])
     requires small { (k < 2 ^ 24) × (Residues (2 ^ 24) x.now) }
     ensures { acc.new ≡ zip_with (λ s c. s + k * c) acc.old x.now }
 {
-    for i in 0..acc.len() {
-        acc[i] += k as u64 * x[i] as u64;
+    for (i, sum) in acc.iter_mut().enumerate() {
+        *sum += k as u64 * x[i] as u64;
     }
 }
 
+// The last coefficient, 0 where there is none.
 fn last(b: &[u32]) -> u32
-    requires { 0 < length b.now }
     ensures { result ≡ last_of 0 b.now }
 {
-    b[b.len() - 1]
+    b.last().copied().unwrap_or(0)
 }
 
 // Each coefficient goes up one place, and c comes in at the bottom.
@@ -129,16 +166,13 @@ fn shift_in(b: &mut [u32], c: u32)
     ensures { b.new ≡ shift_in c b.old }
 {
     let mut carry = c;
-    for i in 0..b.len() {
-        let here = b[i];
-        b[i] = carry;
-        carry = here;
+    for coefficient in b.iter_mut() {
+        std::mem::swap(coefficient, &mut carry);
     }
 }
 
 // x times a polynomial.
 fn times_x<S: ParamSet>(b: &mut [u32])
-    requires { 0 < length b.old }
     ensures { b.new ≡ times_x S.params.p b.old }
 {
     let top = last(b);
@@ -146,14 +180,14 @@ fn times_x<S: ParamSet>(b: &mut [u32])
 }
 
 // Sums a's coefficients times b, x · b, x² · b and so on. A sum of n products stays below 2⁵⁸, so it is reduced once, at the end.
-fn accumulate<S: ParamSet>(acc: &mut [u64], a: &[u32], b: &mut [u32])
-    requires lengths { (length acc.old ≡ S.params.n) × ((length a.now ≡ S.params.n) × (length b.old ≡ S.params.n)) }
-    requires residues { (Residues S.params.p a.now) × (Residues S.params.p b.old) }
+fn accumulate<S: ParamSet>(acc: &mut [u64], a: Poly<'_, S>, b: &mut [u32])
+    requires room { length acc.old ≡ S.params.n }
     requires empty { acc.old ≡ zeros acc.old }
-    ensures { reduced S.params.p acc.new ≡ product S.params.p a.now b.old }
+    requires b { Proper S.params.n S.params.p b.old }
+    ensures { reduced S.params.p acc.new ≡ product S.params.p a.entry.words.now b.old }
 {
-    for i in 0..a.len() {
-        add_scaled(acc, a[i], b);
+    for coefficient in a.words {
+        add_scaled(acc, *coefficient, b);
         times_x::<S>(b);
     }
 }
@@ -163,35 +197,24 @@ fn reduce<S: ParamSet>(out: &mut [u32], sums: &[u64])
     ensures value { out.new ≡ reduced S.params.p sums.now }
     ensures residues { Residues S.params.p out.new }
 {
-    for i in 0..out.len() {
-        out[i] = (sums[i] % S::modulus() as u64) as u32;
+    let p = S::modulus() as u64;
+    for (i, coefficient) in out.iter_mut().enumerate() {
+        *coefficient = (sums[i] % p) as u32;
     }
-}
-
-fn coefficients() -> [u32; MOST]
-    ensures { result ≡ replicate 1024 0 }
-{
-    [0; MOST]
-}
-
-fn wide_coefficients() -> [u64; MOST]
-    ensures { result ≡ replicate 1024 0 }
-{
-    [0; MOST]
 }
 
 // The long product: each coefficient of a times b, n² products in all.
 pub struct LongProduct;
 
 impl<S: ParamSet> Multiply<S> for LongProduct {
-    fn multiply(out: &mut [u32], a: &[u32], b: &[u32]) {
+    fn multiply_words(out: &mut [u32], a: &[u32], b: &[u32]) {
         let n = S::degree();
-        let mut sums = wide_coefficients();
-        let mut factor = coefficients();
+        let mut sums = [0; MOST];
+        let mut factor = [0; MOST];
         let acc = &mut sums[0..n];
         let b_shifted = &mut factor[0..n];
         b_shifted.copy_from_slice(b);
-        accumulate::<S>(acc, a, b_shifted);
+        accumulate::<S>(acc, Poly::new(a), b_shifted);
         reduce::<S>(out, acc)
     }
 }

@@ -7,5 +7,5 @@ use Rattle.ring.proofs.add_assign.Goals as goal
 pub returns : goal.returns
 returns g c =
     let p = g.S.ParamSet.params.p in
-    let value = zipping_all _ c.args.acc.now c.args.x.now c.loop-i.acc c.loop-i.i c.loop-i.invariant (omega arith) (omega arith) (omega arith) in
-    record { value = value; residues = subst (Residues p) (sym value) (plus-residues p c.args.acc.now c.args.x.now (omega (arith, g.S.ParamSet.sound.k_below_p))) }
+    let value = zipping_all _ c.args.acc.now c.args.x.words.now c.loop-i.acc c.loop-i.i c.loop-i.invariant (omega arith) (omega arith) (omega arith) in
+    record { value = value; residues = subst (Residues p) (sym value) (plus-residues p c.args.acc.now c.args.x.words.now (omega (arith, g.S.ParamSet.sound.k_below_p))) }

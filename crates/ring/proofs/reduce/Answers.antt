@@ -8,7 +8,7 @@ pub loop-i-preserved : goal.loop-i-preserved
 loop-i-preserved g c =
     let x = get_or c.args.sums.now c.loop-i.i 0 in
     take_more_set c.loop-i.out c.loop-i.i _ (omega arith)
-    ∙ ap₂ (λ (s : List ℕ) (m : ℕ). s ++ x % m ∷ []) c.loop-i.invariant c.modulus.ensures
+    ∙ ap₂ (λ (s : List ℕ) (m : ℕ). s ++ x % m ∷ []) c.loop-i.invariant c.modulus-p.ensures
     ∙ sym (map_more (λ y. y % g.S.ParamSet.params.p) c.args.sums.now c.loop-i.i 0 (omega arith))
 
 pub returns : goal.returns

@@ -5,4 +5,4 @@ use Rattle.ring.proofs.sub_assign.Given as goal
 abbrev pub invariant-loop-i : goal.invariant-loop-i
 invariant-loop-i g l =
     let p = g.S.ParamSet.params.p in
-    Zipping (λ (a b : ℕ). (a + (p - b)) % p) l.initial.acc l.x l.acc l.i
+    Zipping (λ (a b : ℕ). (a + (p - b)) % p) l.initial.acc l.x.words.now l.acc l.i
