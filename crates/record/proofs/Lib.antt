@@ -1,4 +1,5 @@
 pub mod Fields
+pub mod Firsts
 pub mod Hits
 pub mod Bytes
 pub mod Rewriting

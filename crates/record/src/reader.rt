@@ -2,11 +2,14 @@
 ghost use Rattle.params.specs.Params.{reach};
 ghost use Rattle.record.specs.Layout.{num2, num4, size, unpacked, z_of};
 ghost use Rattle.record.specs.Reading.{Opens, Reads, far};
+ghost use Rattle.refusal.specs.declared.Refusal.TheVariants.{OutOfReach, UnusedCode};
+ghost use Rattle.refusal.specs.Tests.{Tested, at_index};
 ghost use Rattle.search.specs.First.{first_at};
-ghost use Rattle.std.specs.Prelude.{◌≡◌, ℕ, ◌+◌, ◌*◌, ◌/◌, ◌%◌, ◌^◌, ◌<◌, ◌≤◌, length, take, drop, Some, None, MatchOption, ◌==◌, nat_eq};
+ghost use Rattle.std.specs.Prelude.{◌≡◌, ℕ, ◌+◌, ◌*◌, ◌/◌, ◌%◌, ◌^◌, ◌<◌, ◌≤◌, List, [], ◌∷◌, length, take, drop, Some, None, MatchOption, ◌==◌, nat_eq};
 ghost use Rattle.std.specs.Int.{w16};
 ghost use Rattle.std.proofs.Common.{to_z};
 
+use crate::view::codes;
 use crate::{Record, kind, size};
 use params::ParamSet;
 use refusal::Refusal;
@@ -33,66 +36,64 @@ fn read_head(bytes: &[u8]) -> Option<Head<'_>>
 }
 
 // The coefficient in two bytes lies too far from 0.
-fn is_far<S: ParamSet>(low: u8, high: u8) -> bool
-    ensures { result ≡ far S.params (to_z w16 (low + high * 256)) }
+fn is_far<S: ParamSet>(bytes: [u8; 2]) -> bool
+    ensures { result ≡ far S.params (to_z w16 (num2 bytes 0)) }
 {
-    i16::from_le_bytes([low, high]).unsigned_abs() as u32 > S::reach()
+    i16::from_le_bytes(bytes).unsigned_abs() as u32 > S::reach()
 }
 
 // The first coefficient of z that lies too far from 0.
 fn first_far<S: ParamSet>(z: &[u8]) -> Option<usize>
     ensures { result ≡ first_at (far S.params) (z_of z.now) }
 {
-    'coefficients: for i in 0..z.len() / 2 {
-        if is_far::<S>(z[2 * i], z[2 * i + 1]) {
-            return Some(i);
-        }
-    }
-    None
+    let (coefficients, _) = z.as_chunks::<2>();
+    coefficients.iter().position(|bytes| is_far::<S>(*bytes))
 }
 
-// The code at a place of a byte means nothing.
-fn is_unused(byte: u8, place: usize) -> bool
-    requires { place < 4 }
-    ensures { result ≡ (byte / 2 ^ (2 * place) % 4 == 2) }
+// The first code of a byte that means nothing.
+fn first_unused_in(byte: u8) -> Option<usize>
+    ensures { result ≡ first_at (λ code. nat_eq code 2) (unpacked (byte ∷ [])) }
 {
-    (byte >> (2 * place)) % 4 == 2
+    codes(byte).iter().position(|code| *code == 2)
 }
 
-// The first code of the challenge that means nothing.
-fn first_unused(challenge: &[u8]) -> Option<usize>
+// No coefficient of z lies too far from 0.
+fn check_reach<S: ParamSet>(z: &[u8]) -> Result<(), Refusal>
+    ensures { Tested (at_index OutOfReach (first_at (far S.params) (z_of z.now))) result }
+{
+    match first_far::<S>(z) {
+        Some(index) => Err(Refusal::OutOfReach { index }),
+        None => Ok(()),
+    }
+}
+
+// No code of the challenge means nothing.
+fn check_codes(challenge: &[u8]) -> Result<(), Refusal>
     requires { length challenge.now ≤ 2 ^ 40 }
-    ensures { result ≡ first_at (λ code. nat_eq code 2) (unpacked challenge.now) }
+    ensures { Tested (at_index UnusedCode (first_at (λ code. nat_eq code 2) (unpacked challenge.now))) result }
 {
-    'codes: for i in 0..4 * challenge.len() {
-        if is_unused(challenge[i / 4], i % 4) {
-            return Some(i);
+    for (i, byte) in challenge.iter().enumerate() {
+        if let Some(place) = first_unused_in(*byte) {
+            return Err(Refusal::UnusedCode {
+                index: 4 * i + place,
+            });
         }
     }
-    None
+    Ok(())
 }
 
 // What stands behind the kind, once length and kind are those of the set.
 fn open_body<S: ParamSet>(bytes: &[u8]) -> Result<&[u8], Refusal>
     ensures { Opens S.params bytes.now result }
 {
-    let Some(
-        Head {
-            length,
-            kind: found,
-            rest,
-        },
-    ) = read_head(bytes)
-    else {
-        return Err(Refusal::RecordSize);
-    };
-    if bytes.len() != size::<S>() || length as usize != size::<S>() - 4 {
+    let head = read_head(bytes).ok_or(Refusal::RecordSize)?;
+    if bytes.len() != size::<S>() || head.length as usize != size::<S>() - 4 {
         return Err(Refusal::RecordSize);
     }
-    if found != kind::<S>() {
+    if head.kind != kind::<S>() {
         return Err(Refusal::Kind);
     }
-    Ok(rest)
+    Ok(head.rest)
 }
 
 // The parts of a body, each where it lies.
@@ -103,12 +104,14 @@ fn split_body<S: ParamSet>(body: &[u8]) -> Record<'_>
     ensures z { result.z.now ≡ take (4 * S.params.n) (drop 34 body.now) }
     ensures challenge { result.challenge.now ≡ drop (34 + 4 * S.params.n) body.now }
 {
-    let z_end = 34 + 4 * S::degree();
+    let (counter, rest) = body.split_at(2);
+    let (digest, rest) = rest.split_at(32);
+    let (z, challenge) = rest.split_at(4 * S::degree());
     Record {
-        counter: u16::from_le_bytes([body[0], body[1]]),
-        digest: &body[2..34],
-        z: &body[34..z_end],
-        challenge: &body[z_end..body.len()],
+        counter: u16::from_le_bytes([counter[0], counter[1]]),
+        digest,
+        z,
+        challenge,
     }
 }
 
@@ -118,11 +121,7 @@ pub fn read<S: ParamSet>(bytes: &[u8]) -> Result<Record<'_>, Refusal>
 {
     let body = open_body::<S>(bytes)?;
     let record = split_body::<S>(body);
-    if let Some(index) = first_far::<S>(record.z) {
-        return Err(Refusal::OutOfReach { index });
-    }
-    if let Some(index) = first_unused(record.challenge) {
-        return Err(Refusal::UnusedCode { index });
-    }
+    check_reach::<S>(record.z)?;
+    check_codes(record.challenge)?;
     Ok(record)
 }

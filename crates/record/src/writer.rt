@@ -17,13 +17,13 @@ fn head<S: ParamSet>(counter: u16) -> [u8; 8]
     [l0, l1, l2, l3, k0, k1, c0, c1]
 }
 
-// Two bytes a coefficient.
+// Two bytes a coefficient. They are written by their place: of a slice that is lent out in parts nothing is known when the loans end.
 fn write_z(part: &mut [u8], z: &[i16])
     requires { length part.old ≡ 2 * length z.now }
     ensures { part.new ≡ z_bytes z.now }
 {
-    'coefficients: for i in 0..z.len() {
-        part[2 * i..2 * i + 2].copy_from_slice(&z[i].to_le_bytes());
+    for (i, coefficient) in z.iter().enumerate() {
+        part[2 * i..2 * i + 2].copy_from_slice(&coefficient.to_le_bytes());
     }
 }
 
@@ -48,13 +48,10 @@ fn write_challenge(part: &mut [u8], c: &[u32])
     requires { length c.now ≡ 4 * length part.old }
     ensures { part.new ≡ packed (map code_of c.now) }
 {
-    'bytes: for i in 0..part.len() {
-        part[i] = pack(
-            code(c[4 * i]),
-            code(c[4 * i + 1]),
-            code(c[4 * i + 2]),
-            code(c[4 * i + 3]),
-        );
+    let (fours, _) = c.as_chunks::<4>();
+    for (i, byte) in part.iter_mut().enumerate() {
+        let [a, b, c, d] = fours[i];
+        *byte = pack(code(a), code(b), code(c), code(d));
     }
 }
 
@@ -73,7 +70,8 @@ fn sizes_fit<S: ParamSet>(area: usize, z: usize, c: usize) -> bool
     area == size::<S>() && z == 2 * n && c == n
 }
 
-// Writes a record into the area lent for it: z1 and then z2, and the residues of the challenge.
+// Writes a record into the area lent for it: z1 and then z2, and the residues of the challenge. The four parts come together
+// only at the one call, so a struct of them would be made there and taken apart here.
 pub fn write<S: ParamSet>(
     out: &mut [u8],
     counter: u16,

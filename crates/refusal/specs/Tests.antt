@@ -1,5 +1,5 @@
 -- Tests in a row: the first that hits is answered.
-use Rattle.std.specs.Prelude.{ℕ, Bool, cond, List, [], ◌∷◌, Some, None, Option}
+use Rattle.std.specs.Prelude.{◌≡◌, ℕ, Bool, cond, List, [], ◌∷◌, Some, None, Ok, Err, Option, Result}
 use Rattle.refusal.specs.declared.Refusal.{Refusal}
 
 -- the refusal of a test that hit, or none
@@ -16,3 +16,8 @@ abbrev pub first_hit : List (Option Refusal) → Option Refusal
 first_hit [] = None
 first_hit (None ∷ tests) = first_hit tests
 first_hit (Some e ∷ tests) = Some e
+
+-- one test alone: it is passed, or it hit
+abbrev pub Tested : {A : Type 0} → Option Refusal → Result A Refusal → Type 0
+Tested test (Ok _) = test ≡ None
+Tested test (Err e) = test ≡ Some e

@@ -1,4 +1,3 @@
-pub mod Filling
 pub mod Parts
 pub mod Hits
 pub mod Accepting

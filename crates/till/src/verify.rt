@@ -1,36 +1,30 @@
 // Plain verification of a record that has been read.
-ghost use Rattle.std.specs.Prelude.{◌≡◌, ℕ, ◌+◌, ◌*◌, ◌/◌, ◌<◌, ◌≤◌, List, map, length, replicate};
+ghost use Rattle.std.specs.Prelude.{◌≡◌, ℕ, ◌+◌, ◌*◌, ◌/◌, ◌<◌, ◌≤◌, List, [], ◌∷◌, map, length};
 ghost use Rattle.challenge.specs.Challenge.{challenge};
 ghost use Rattle.record.specs.Layout.{coefficient, unpacked, z_of};
-ghost use Rattle.ring.specs.Laws.{Proper};
-ghost use Rattle.ring.specs.Ring.{residue};
+ghost use Rattle.ring.specs.Ring.{Residues, residue};
 ghost use Rattle.till.specs.Verification.{PublicKey, answering, commitment};
-ghost use Rattle.std.specs.Str.{bytes_eq};
 
 use challenge::challenge;
 use params::ParamSet;
 use record::Record;
-use ring::{Multiply, add_assign, sub_assign, to_residue};
-
-fn zeros<const K: usize>() -> [u32; K]
-    ensures { result ≡ replicate K 0 }
-{
-    [0; K]
-}
+use record::view::codes;
+use ring::{Multiply, Poly, add_assign, sub_assign, to_residue};
 
 // The residues of coefficients that stand in two bytes each.
 fn read_z<S: ParamSet>(z: &mut [u32], bytes: &[u8])
     requires { length bytes.now ≡ 2 * length z.old }
-    ensures { z.new ≡ map (residue S.params.p) (z_of bytes.now) }
+    ensures value { z.new ≡ map (residue S.params.p) (z_of bytes.now) }
+    ensures residues { Residues S.params.p z.new }
 {
-    'coefficients: for i in 0..z.len() {
-        z[i] = to_residue::<S>(i16::from_le_bytes([bytes[2 * i], bytes[2 * i + 1]]));
+    let (pairs, _) = bytes.as_chunks::<2>();
+    for (i, coefficient) in z.iter_mut().enumerate() {
+        *coefficient = to_residue::<S>(i16::from_le_bytes(pairs[i]));
     }
 }
 
 // The residue of a code: 0 is 0, 1 is +1, 3 is −1.
 fn coefficient<S: ParamSet>(code: u8) -> u32
-    requires { code < 4 }
     ensures { result ≡ coefficient S.params.p code }
 {
     if code == 3 {
@@ -40,45 +34,48 @@ fn coefficient<S: ParamSet>(code: u8) -> u32
     }
 }
 
+// The coefficients in a byte of a challenge.
+fn read_byte<S: ParamSet>(byte: u8) -> [u32; 4]
+    ensures { result ≡ map (coefficient S.params.p) (unpacked (byte ∷ [])) }
+{
+    let [a, b, c, d] = codes(byte);
+    [
+        coefficient::<S>(a),
+        coefficient::<S>(b),
+        coefficient::<S>(c),
+        coefficient::<S>(d),
+    ]
+}
+
 // The coefficients of a challenge, from four codes a byte.
 fn read_challenge<S: ParamSet>(c: &mut [u32], bytes: &[u8])
     requires { length c.old ≡ 4 * length bytes.now }
-    ensures { c.new ≡ map (coefficient S.params.p) (unpacked bytes.now) }
+    ensures value { c.new ≡ map (coefficient S.params.p) (unpacked bytes.now) }
+    ensures residues { Residues S.params.p c.new }
 {
-    'codes: for i in 0..c.len() {
-        c[i] = coefficient::<S>((bytes[i / 4] >> (2 * (i % 4))) & 3);
+    for (i, byte) in bytes.iter().enumerate() {
+        c[4 * i..4 * i + 4].copy_from_slice(&read_byte::<S>(*byte));
     }
 }
 
 // a·z1 + z2 − t·c.
 fn commitment<S: ParamSet, M: Multiply<S>>(
     r: &mut [u32],
-    a: &[u32],
-    t: &[u32],
-    z1: &[u32],
-    z2: &[u32],
-    c: &[u32],
+    a: Poly<'_, S>,
+    t: Poly<'_, S>,
+    z1: Poly<'_, S>,
+    z2: Poly<'_, S>,
+    c: Poly<'_, S>,
 )
-    requires room { length r.old ≡ S.params.n }
-    requires a { Proper S.params.n S.params.p a.now }
-    requires t { Proper S.params.n S.params.p t.now }
-    requires z1 { Proper S.params.n S.params.p z1.now }
-    requires z2 { Proper S.params.n S.params.p z2.now }
-    requires c { Proper S.params.n S.params.p c.now }
-    ensures { r.new ≡ commitment S.params.p a.now t.now z1.now z2.now c.now }
+    requires { length r.old ≡ S.params.n }
+    ensures { r.new ≡ commitment S.params.p a.entry.words.now t.entry.words.now z1.entry.words.now z2.entry.words.now c.entry.words.now }
 {
-    let mut room = zeros::<1024>();
+    let mut room = [0; 1024];
     let tc = &mut room[0..S::degree()];
     M::multiply(tc, t, c);
     M::multiply(r, a, z1);
-    add_assign::<S>(r, z2);
-    sub_assign::<S>(r, tc);
-}
-
-fn equal(x: &[u32], y: &[u32]) -> bool
-    ensures { result ≡ bytes_eq x.now y.now }
-{
-    x == y
+    add_assign(r, z2);
+    sub_assign(r, Poly::<S>::new(tc));
 }
 
 // Whether a record's challenge is the one that its answer calls for.
@@ -89,10 +86,10 @@ pub(crate) fn answers<S: ParamSet, M: Multiply<S>>(key: &[u32], record: &Record<
     ensures { result ≡ answering S.params key.now «record».now }
 {
     let n = S::degree();
-    let mut z_room = zeros::<2048>();
-    let mut c_room = zeros::<1024>();
-    let mut r_room = zeros::<1024>();
-    let mut expected_room = zeros::<1024>();
+    let mut z_room = [0; 2048];
+    let mut c_room = [0; 1024];
+    let mut r_room = [0; 1024];
+    let mut expected_room = [0; 1024];
     let z = &mut z_room[0..2 * n];
     let c = &mut c_room[0..n];
     let r = &mut r_room[0..n];
@@ -101,7 +98,14 @@ pub(crate) fn answers<S: ParamSet, M: Multiply<S>>(key: &[u32], record: &Record<
     read_challenge::<S>(c, record.challenge);
     let (a, t) = key.split_at(n);
     let (z1, z2) = z.split_at(n);
-    commitment::<S, M>(r, a, t, z1, z2, c);
+    commitment::<S, M>(
+        r,
+        Poly::new(a),
+        Poly::new(t),
+        Poly::new(z1),
+        Poly::new(z2),
+        Poly::new(c),
+    );
     challenge::<S>(expected, r, record.digest, record.counter);
-    equal(expected, c)
+    *expected == *c
 }

@@ -1,28 +1,20 @@
-use Rattle.std.proofs.Common.{pos, sym, ap, ◌∙◌, arith}
-use Rattle.record.proofs.Fields.{length_z, get_d_z}
-use Rattle.search.proofs.Searching.{hit-here, miss-here, none_left}
+use Rattle.std.proofs.Common.{ℕ, ◌/◌, Bool, List, length, ap, ◌∙◌, refl, rules, tests}
+use Rattle.std.proofs.lemmas.Iterator.{YieldsList-from_slice}
+use Rattle.std.proofs.lemmas.Iterator.Search.{position_from_yields_List}
+use Rattle.std.specs.Simd.{first_chunks}
+use Rattle.record.proofs.Firsts.{first_from-map, in_pair, z_of-pairs}
 use Rattle.record.proofs.reader.first_far.Goals as goal
-use Rattle.record.specs.Layout.{z_of}
 use Rattle.record.specs.Reading.{far}
-
-pub returns-then-is_far : goal.returns-then-is_far
-returns-then-is_far g c =
-    let s = g.S.ParamSet.params in
-    let z = c.args.z.now in
-    let i = c.coefficients.i in
-    let hit = ap (far s) (get_d_z z i (pos 0) (omega arith)) ∙ sym c.is_far.ensures ∙ c.if-is_far.true in
-    sym (hit-here (pos 0) (far s) (z_of z) i (omega (arith, length_z z)) hit) ∙ c.coefficients.invariant
-
-pub coefficients-preserved : goal.coefficients-preserved
-coefficients-preserved g c =
-    let s = g.S.ParamSet.params in
-    let z = c.args.z.now in
-    let i = c.coefficients.i in
-    let miss = ap (far s) (get_d_z z i (pos 0) (omega arith)) ∙ sym c.is_far.ensures ∙ c.if-is_far.false in
-    sym (miss-here (pos 0) (far s) (z_of z) i (omega (arith, length_z z)) miss) ∙ c.coefficients.invariant
+use Rattle.search.proofs.Searching.{position-first}
+use Rattle.search.specs.First.{first_at}
 
 pub returns : goal.returns
 returns g c =
     let s = g.S.ParamSet.params in
     let z = c.args.z.now in
-    sym (none_left (pos 0) (far s) (z_of z) c.coefficients.i (omega (arith, length_z z))) ∙ c.coefficients.invariant
+    let pairs : List (List ℕ) = first_chunks 2 (length z / 2) z in
+    let test : List ℕ → Bool = λ bytes. far s (in_pair bytes) in
+    position_from_yields_List test _ _ _ c.position.ensures.ran (YieldsList-from_slice pairs cc) (λ x b q k. search (rules, tests))
+    ∙ position-first test pairs
+    ∙ first_from-map (far s) in_pair 0 pairs
+    ∙ ap (first_at (far s)) (z_of-pairs (length z / 2) z refl)

@@ -1,13 +1,9 @@
-use Rattle.std.proofs.Common.{ℕ, ◌+◌, ◌*◌, take, drop, refl, ap, ◌∙◌, arith}
-use Rattle.std.proofs.lemmas.List.{take_rest}
+use Rattle.std.proofs.Common.{ℕ, ◌*◌, List, drop, ap, ◌∙◌, ap₂}
+use Rattle.std.proofs.lemmas.List.{drop-drop}
 use Rattle.record.proofs.reader.split_body.Goals as goal
 
-pub returns : goal.returns
-returns g c =
+pub returns-clause-challenge : goal.returns-clause-challenge
+returns-clause-challenge g c =
     let body = c.args.body.now in
-    record {
-      counter = c.from_le_bytes.ensures;
-      digest = refl;
-      z = ap (λ (k : ℕ). take k (drop 34 body)) (omega arith);
-      challenge = take_rest body _ ∙ ap (λ (k : ℕ). drop (34 + 4 * k) body) c.degree.ensures;
-    }
+    let rest = c.split_at-2.ensures.back ∙ ap (drop 32) c.split_at.ensures.back ∙ drop-drop 32 2 body in
+    c.split_at-3.ensures.back ∙ ap₂ (λ (k : ℕ) (xs : List ℕ). drop (4 * k) xs) c.degree.ensures rest ∙ drop-drop (4 * g.S.ParamSet.params.n) 34 body

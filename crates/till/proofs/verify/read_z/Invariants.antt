@@ -1,7 +1,6 @@
 use Rattle.std.proofs.Common.{◌≡◌, map, take}
-use Rattle.record.specs.Layout.{z_of}
-use Rattle.ring.specs.Ring.{residue}
+use Rattle.till.proofs.Parts.{residue_in}
 use Rattle.till.proofs.verify.read_z.Given as goal
 
-abbrev pub invariant-coefficients : goal.invariant-coefficients
-invariant-coefficients g l = take l.i l.z ≡ map (residue g.S.ParamSet.params.p) (take l.i (z_of l.bytes))
+abbrev pub invariant-loop-i : goal.invariant-loop-i
+invariant-loop-i g l = take l.i l.z ≡ map (residue_in g.S.ParamSet.params.p) (take l.i l.pairs)
