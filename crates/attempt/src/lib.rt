@@ -5,7 +5,6 @@ ghost use Rattle.std.specs.Prelude.{◌≡◌, ◌+◌, ◌-◌, ◌*◌, ◌<�
 ghost use Rattle.params.specs.Params.{reach};
 ghost use Rattle.record.specs.Layout.{encode, size};
 ghost use Rattle.record.specs.Writing.{content_of};
-ghost use Rattle.ring.specs.Laws.{Proper};
 ghost use Rattle.ring.specs.Ring.{Residues, centre, plus, product};
 ghost use Rattle.polys.specs.Area.{recombined, values};
 ghost use Rattle.drawing.specs.Drawing.{halted};
@@ -24,7 +23,7 @@ use polys::{Shared, commit_rows, open_poly, respond_rows};
 use record::write;
 use refusal::{Fault, Step};
 use response::{check, open_response};
-use ring::Multiply;
+use ring::{Multiply, Poly};
 pub use stage::{Committed, Drawn};
 use steps::Ended;
 pub use stopped::Stopped;
@@ -86,13 +85,12 @@ impl Drawn {
         self,
         opened: &mut [u32],
         shares: &mut [u32],
-        a: &[u32],
+        a: Poly<'_, S>,
         y: Shared<'_, 2, M, S>,
         masks: &mut W,
     ) -> Result<Committed, Stopped>
         requires room { (length opened.old ≡ S.params.n) × (length shares.old ≡ M * S.params.n) }
-        requires a { Proper S.params.n S.params.p a.now }
-        ensures { Commits S.params M self.number result (commitment_to S.params a.now (recombined S.params M y.entry.area.now)) opened.new (W.flow masks.old) (W.flow masks.new) }
+        ensures { Commits S.params M self.number result (commitment_to S.params a.entry.words.now (recombined S.params M y.entry.area.now)) opened.new (W.flow masks.old) (W.flow masks.new) }
     {
         let Drawn { number } = self;
         commit_rows::<M, S, P>(shares, a, y);
@@ -110,12 +108,11 @@ impl Committed {
         shares: &mut [u32],
         key: Shared<'_, 2, M, S>,
         y: Shared<'_, 2, M, S>,
-        c: &[u32],
+        c: Poly<'_, S>,
         masks: &mut W,
     ) -> Result<bool, Stopped>
         requires room { (length opened.old ≡ 2 * S.params.n) × (length shares.old ≡ 2 * M * S.params.n) }
-        requires c { Proper S.params.n S.params.p c.now }
-        ensures { Closes S.params M self.number result (answer_to S.params (recombined S.params M key.entry.area.now) c.now (recombined S.params M y.entry.area.now)) opened.new (W.flow masks.old) (W.flow masks.new) }
+        ensures { Closes S.params M self.number result (answer_to S.params (recombined S.params M key.entry.area.now) c.entry.words.now (recombined S.params M y.entry.area.now)) opened.new (W.flow masks.old) (W.flow masks.new) }
     {
         let Committed { number } = self;
         respond_rows::<M, S, P>(shares, key, y, c);
@@ -154,7 +151,7 @@ pub fn attempt<const M: usize, S: ParamSet, P: Multiply<S>, N: Source, W: Source
     requires shares { M ≡ subject.shares }
     requires work { length work.old ≡ 6 * M * S.params.n }
     requires record { length «record».old ≡ size S.params }
-    ensures { Attempts S.params M (subject_of S.params M subject.entry.a.now subject.entry.key.now subject.entry.digest.now subject.entry.counter) number result «record».old «record».new (N.flow nonces.old) (N.flow nonces.new) (W.flow masks.old) (W.flow masks.new) }
+    ensures { Attempts S.params M (subject_of S.params M subject.entry.a.words.now subject.entry.key.now subject.entry.digest.now subject.entry.counter) number result «record».old «record».new (N.flow nonces.old) (N.flow nonces.new) (W.flow masks.old) (W.flow masks.new) }
 {
     let n = S::degree();
     let (y, rest) = work.split_at_mut(2 * M * n);
@@ -178,7 +175,7 @@ pub fn attempt<const M: usize, S: ParamSet, P: Multiply<S>, N: Source, W: Source
     let mut room = [0; 2048];
     let answer = &mut room[0..2 * n];
     let key = Shared::<2, M, S>::new(key);
-    let passed = committed.close::<M, S, P, W>(answer, z, key, y, c, masks)?;
+    let passed = committed.close::<M, S, P, W>(answer, z, key, y, Poly::new(c), masks)?;
     if passed {
         write_record::<S>(record, counter, digest, answer, c);
     }

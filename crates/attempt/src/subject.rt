@@ -1,25 +1,22 @@
 // What an attempt is of.
 ghost use Rattle.std.specs.Prelude.{◌≡◌, ◌*◌, ◌<◌, ◌≤◌, ⊤, length};
-ghost use Rattle.ring.specs.Laws.{Proper};
 ghost use Rattle.ring.specs.Ring.{Residues};
 
 use params::ParamSet;
+use ring::Poly;
 use std::alloc::AllocError;
-use std::marker::PhantomData;
 
 /// What is signed, and with which key: the key's area, in so many shares, beside the public polynomial a, and the digest and the counter.
 pub struct Subject<'a, S: ParamSet> {
     pub shares: u8,
     pub key: &'a [u32],
-    pub a: &'a [u32],
+    pub a: Poly<'a, S>,
     pub digest: &'a [u8; 32],
     pub counter: u16,
-    pub set: PhantomData<S>,
     ghost some: { 0 < shares },
     ghost most: { shares ≤ 8 },
     ghost sized: { length key.now ≡ 2 * shares * S.params.n },
     ghost residues: { Residues S.params.p key.now },
-    ghost proper: { Proper S.params.n S.params.p a.now },
 }
 
 // By hand: a derive would ask that S be Copy.
