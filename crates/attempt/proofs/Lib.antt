@@ -1,2 +1,3 @@
 mod Finishing
 mod Closing
+mod Failing

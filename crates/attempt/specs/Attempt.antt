@@ -8,7 +8,8 @@ use Rattle.polys.specs.Area.{recombined}
 use Rattle.plain.specs.Nonces.{whole}
 use Rattle.plain.specs.Run.{Key, signed, all_failed, rejected, choose, run, stop, after_rejected}
 use Rattle.drawing.specs.Resume.{Subject, Supply, setting_of, resume, Fits, Stops}
-use Rattle.attempt.specs.declared.stopped.Stopped.{Stopped}
+use Rattle.refusal.specs.declared.fault.Fault.{Fault}
+use Rattle.steps.specs.declared.Ended.{Ended}
 use Rattle.attempt.specs.Stages.{Halted}
 
 -- the key that a key area of m shares holds beside the public polynomial a
@@ -40,10 +41,10 @@ pub record Rejected (s : Params) (m : ℕ) (u : Subject) (n n' f f' : Flow) : Ty
       (after_rejected words content (run (setting_of s m u x) (more - 1) (a + 1) [] [] (seen₀ + seen) (spent₀ + spent) (whole m n'.words)))
 
 -- an attempt with this number: it passes, is rejected, or is stopped; only one that passes changes the record area
-abbrev pub AttemptBy : Params → ℕ → Subject → ℕ → Result Bool Stopped → (bytes bytes' : List ℕ) → Flow → Flow → Flow → Flow → Type 0
+abbrev pub AttemptBy : Params → ℕ → Subject → ℕ → Result Bool (Ended Fault) → (bytes bytes' : List ℕ) → Flow → Flow → Flow → Flow → Type 0
 AttemptBy s m u number (Ok true) bytes bytes' n n' f f' = Passed s m u bytes' n n' f f'
 AttemptBy s m u number (Ok false) bytes bytes' n n' f f' = (bytes' ≡ bytes) × Rejected s m u n n' f f'
 AttemptBy s m u number (Err t) bytes bytes' n n' f f' = (bytes' ≡ bytes) × Halted s m u number t n n' f f'
 
-pub record Attempts (s : Params) (m : ℕ) (u : Subject) (number : ℕ) (r : Result Bool Stopped) (bytes bytes' : List ℕ) (n n' f f' : Flow) : Type 0 where
+pub record Attempts (s : Params) (m : ℕ) (u : Subject) (number : ℕ) (r : Result Bool (Ended Fault)) (bytes bytes' : List ℕ) (n n' f f' : Flow) : Type 0 where
   pub by : AttemptBy s m u number r bytes bytes' n n' f f'

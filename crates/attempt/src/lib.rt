@@ -5,28 +5,29 @@ ghost use Rattle.std.specs.Prelude.{◌≡◌, ◌+◌, ◌-◌, ◌*◌, ◌<�
 ghost use Rattle.params.specs.Params.{reach};
 ghost use Rattle.record.specs.Layout.{encode, size};
 ghost use Rattle.record.specs.Writing.{content_of};
-ghost use Rattle.ring.specs.Laws.{Proper};
 ghost use Rattle.ring.specs.Ring.{Residues, centre, plus, product};
 ghost use Rattle.polys.specs.Area.{recombined, values};
 ghost use Rattle.drawing.specs.Drawing.{halted};
-ghost use Rattle.drawing.specs.Resume.{Subject};
+ghost use Rattle.drawing.specs.Resume.{Subject as Signs};
 ghost use Rattle.attempt.specs.Attempt.{Attempts, subject_of};
 ghost use Rattle.attempt.specs.Stages.{Begins, Closes, Commits, answer_to, attempt_of, commitment_to, outcome_of};
 
 pub mod stage;
 pub mod stopped;
+pub mod subject;
 
 use challenge::challenge;
 use drawing::{Halt, draw};
 use params::ParamSet;
-use polys::{commit_rows, open_poly, respond_rows};
+use polys::{Shared, commit_rows, open_poly, respond_rows};
 use record::write;
 use refusal::{Fault, Step};
 use response::{check, open_response};
-use ring::Multiply;
+use ring::{Multiply, Poly};
 pub use stage::{Committed, Drawn};
 use steps::Ended;
 pub use stopped::Stopped;
+pub use subject::Subject;
 use words::{Mark, Source};
 
 // Tells an attempt's number with the source that ended in it.
@@ -34,25 +35,27 @@ fn stop_at(number: u32, halt: Halt) -> Stopped
     ensures outcome { outcome_of result ≡ halted halt number }
     ensures number { attempt_of result ≡ number }
 {
+    let attempt = number;
+    let step = halt.step;
     match halt.ended {
-        Ended::Nonces(mark) => Stopped::Nonces(Fault {
+        Ended::Nonces(mark) => Ended::Nonces(Fault {
             mark,
-            attempt: number,
-            step: halt.step,
+            attempt,
+            step,
         }),
-        Ended::Masks(mark) => Stopped::Masks(Fault {
+        Ended::Masks(mark) => Ended::Masks(Fault {
             mark,
-            attempt: number,
-            step: halt.step,
+            attempt,
+            step,
         }),
     }
 }
 
 // The masks ended in a step of an attempt.
 fn masks_ended(number: u32, step: Step, mark: Mark) -> Stopped
-    ensures { result ≡ Stopped.Masks (record { mark = mark; attempt = number; step = step }) }
+    ensures { result ≡ Ended.Masks (record { mark = mark; attempt = number; step = step }) }
 {
-    Stopped::Masks(Fault {
+    Ended::Masks(Fault {
         mark,
         attempt: number,
         step,
@@ -70,13 +73,11 @@ impl Drawn {
         requires some { 0 < M }
         requires most { M ≤ 8 }
         requires sized { length y.old ≡ 2 * M * S.params.n }
-        ensures drawn { (u : Subject) → Begins S.params M u number result (recombined S.params M y.new) (N.flow nonces.old) (N.flow nonces.new) (W.flow masks.old) (W.flow masks.new) }
+        ensures drawn { (u : Signs) → Begins S.params M u number result (recombined S.params M y.new) (N.flow nonces.old) (N.flow nonces.new) (W.flow masks.old) (W.flow masks.new) }
         ensures residues { OnOk result (Residues S.params.p y.new) }
     {
-        match draw::<M, S, N, W>(y, nonces, masks) {
-            Ok(()) => Ok(Drawn { number }),
-            Err(halt) => Err(stop_at(number, halt)),
-        }
+        draw::<M, S, N, W>(y, nonces, masks).map_err(|halt| stop_at(number, halt))?;
+        Ok(Drawn { number })
     }
 
     /// Opens the commitment a·y1 + y2 into `opened`; `shares` is room for its shares.
@@ -84,23 +85,18 @@ impl Drawn {
         self,
         opened: &mut [u32],
         shares: &mut [u32],
-        a: &[u32],
-        y: &[u32],
+        a: Poly<'_, S>,
+        y: Shared<'_, 2, M, S>,
         masks: &mut W,
     ) -> Result<Committed, Stopped>
-        requires some { 0 < M }
-        requires most { M ≤ 8 }
-        requires sized { (length opened.old ≡ S.params.n) × ((length shares.old ≡ M * S.params.n) × (length y.now ≡ 2 * M * S.params.n)) }
-        requires a { Proper S.params.n S.params.p a.now }
-        requires residues { Residues S.params.p y.now }
-        ensures { Commits S.params M self.number result (commitment_to S.params a.now (recombined S.params M y.now)) opened.new (W.flow masks.old) (W.flow masks.new) }
+        requires room { (length opened.old ≡ S.params.n) × (length shares.old ≡ M * S.params.n) }
+        ensures { Commits S.params M self.number result (commitment_to S.params a.entry.words.now (recombined S.params M y.entry.area.now)) opened.new (W.flow masks.old) (W.flow masks.new) }
     {
         let Drawn { number } = self;
         commit_rows::<M, S, P>(shares, a, y);
-        match open_poly::<M, S, W>(opened, shares, masks) {
-            Ok(()) => Ok(Committed { number }),
-            Err(mark) => Err(masks_ended(number, Step::Commit, mark)),
-        }
+        let r = Shared::<1, M, S>::new(shares);
+        open_poly(opened, r, masks).map_err(|mark| masks_ended(number, Step::Commit, mark))?;
+        Ok(Committed { number })
     }
 }
 
@@ -110,40 +106,24 @@ impl Committed {
         self,
         opened: &mut [i16],
         shares: &mut [u32],
-        key: &[u32],
-        y: &[u32],
-        c: &[u32],
+        key: Shared<'_, 2, M, S>,
+        y: Shared<'_, 2, M, S>,
+        c: Poly<'_, S>,
         masks: &mut W,
     ) -> Result<bool, Stopped>
-        requires some { 0 < M }
-        requires most { M ≤ 8 }
         requires room { (length opened.old ≡ 2 * S.params.n) × (length shares.old ≡ 2 * M * S.params.n) }
-        requires sized { (length key.now ≡ 2 * M * S.params.n) × (length y.now ≡ 2 * M * S.params.n) }
-        requires residues { (Residues S.params.p key.now) × (Residues S.params.p y.now) }
-        requires c { Proper S.params.n S.params.p c.now }
-        ensures { Closes S.params M self.number result (answer_to S.params (recombined S.params M key.now) c.now (recombined S.params M y.now)) opened.new (W.flow masks.old) (W.flow masks.new) }
+        ensures { Closes S.params M self.number result (answer_to S.params (recombined S.params M key.entry.area.now) c.entry.words.now (recombined S.params M y.entry.area.now)) opened.new (W.flow masks.old) (W.flow masks.new) }
     {
         let Committed { number } = self;
         respond_rows::<M, S, P>(shares, key, y, c);
-        let passes = match check::<M, S, W>(shares, masks) {
-            Ok(passes) => passes,
-            Err(mark) => return Err(masks_ended(number, Step::Check, mark)),
-        };
+        let z = Shared::<2, M, S>::new(shares);
+        let passes = check(z, masks).map_err(|mark| masks_ended(number, Step::Check, mark))?;
         if !passes {
             return Ok(false);
         }
-        match open_response::<M, S, W>(opened, shares, masks) {
-            Ok(()) => Ok(true),
-            Err(mark) => Err(masks_ended(number, Step::Open, mark)),
-        }
+        open_response(opened, z, masks).map_err(|mark| masks_ended(number, Step::Open, mark))?;
+        Ok(true)
     }
-}
-
-// Room for the answer of the largest set.
-fn answer_room() -> [i16; 2048]
-    ensures { result ≡ replicate 2048 (pos 0) }
-{
-    [0; 2048]
 }
 
 // Writes a record into an area of its size.
@@ -159,70 +139,45 @@ fn write_record<S: ParamSet>(out: &mut [u8], counter: u16, digest: &[u8; 32], z:
     }
 }
 
-// One attempt in areas of its own.
-fn attempt_in<const M: usize, S: ParamSet, P: Multiply<S>, N: Source, W: Source>(
-    number: u32,
-    key: &[u32],
-    a: &[u32],
-    digest: &[u8; 32],
-    counter: u16,
-    y: &mut [u32],
-    z: &mut [u32],
-    r: &mut [u32],
-    opened: &mut [u32],
-    record: &mut [u8],
-    nonces: &mut N,
-    masks: &mut W,
-) -> Result<bool, Stopped>
-    requires some { 0 < M }
-    requires most { M ≤ 8 }
-    requires key { (length key.now ≡ 2 * M * S.params.n) × (Residues S.params.p key.now) }
-    requires a { Proper S.params.n S.params.p a.now }
-    requires work { (length y.old ≡ 2 * M * S.params.n) × ((length z.old ≡ 2 * M * S.params.n) × ((length r.old ≡ M * S.params.n) × (length opened.old ≡ S.params.n))) }
-    requires record { length «record».old ≡ size S.params }
-    ensures { Attempts S.params M (subject_of S.params M a.now key.now digest.now counter) number result «record».old «record».new (N.flow nonces.old) (N.flow nonces.new) (W.flow masks.old) (W.flow masks.new) }
-{
-    let n = S::degree();
-    let drawn = Drawn::draw::<M, S, N, W>(number, y, nonces, masks)?;
-    let committed = drawn.commit::<M, S, P, W>(opened, r, a, y, masks)?;
-    // The shares of the commitment are of no more use.
-    let c = &mut r[0..n];
-    challenge::<S>(c, opened, digest, counter);
-    let mut room = answer_room();
-    let answer = &mut room[0..2 * n];
-    let passed = committed.close::<M, S, P, W>(answer, z, key, y, c, masks)?;
-    if passed {
-        write_record::<S>(record, counter, digest, answer, c);
-    }
-    Ok(passed)
-}
-
 /// One attempt, from its first draw to its record, which is written if it passes.
 pub fn attempt<const M: usize, S: ParamSet, P: Multiply<S>, N: Source, W: Source>(
     number: u32,
-    key: &[u32],
-    a: &[u32],
-    digest: &[u8; 32],
-    counter: u16,
+    subject: Subject<'_, S>,
     work: &mut [u32],
     record: &mut [u8],
     nonces: &mut N,
     masks: &mut W,
 ) -> Result<bool, Stopped>
-    requires some { 0 < M }
-    requires most { M ≤ 8 }
-    requires key { (length key.now ≡ 2 * M * S.params.n) × (Residues S.params.p key.now) }
-    requires a { Proper S.params.n S.params.p a.now }
+    requires shares { M ≡ subject.shares }
     requires work { length work.old ≡ 6 * M * S.params.n }
     requires record { length «record».old ≡ size S.params }
-    ensures { Attempts S.params M (subject_of S.params M a.now key.now digest.now counter) number result «record».old «record».new (N.flow nonces.old) (N.flow nonces.new) (W.flow masks.old) (W.flow masks.new) }
+    ensures { Attempts S.params M (subject_of S.params M subject.entry.a.words.now subject.entry.key.now subject.entry.digest.now subject.entry.counter) number result «record».old «record».new (N.flow nonces.old) (N.flow nonces.new) (W.flow masks.old) (W.flow masks.new) }
 {
     let n = S::degree();
     let (y, rest) = work.split_at_mut(2 * M * n);
     let (z, rest) = rest.split_at_mut(2 * M * n);
     let (r, rest) = rest.split_at_mut(M * n);
     let opened = &mut rest[0..n];
-    attempt_in::<M, S, P, N, W>(
-        number, key, a, digest, counter, y, z, r, opened, record, nonces, masks,
-    )
+    let Subject {
+        key,
+        a,
+        digest,
+        counter,
+        ..
+    } = subject;
+    let drawn = Drawn::draw::<M, S, N, W>(number, y, nonces, masks)?;
+    let y = Shared::<2, M, S>::new(y);
+    let committed = drawn.commit::<M, S, P, W>(opened, r, a, y, masks)?;
+    // The shares of the commitment are of no more use.
+    let c = &mut r[0..n];
+    challenge::<S>(c, opened, digest, counter);
+    // Room for the answer of the largest set.
+    let mut room = [0; 2048];
+    let answer = &mut room[0..2 * n];
+    let key = Shared::<2, M, S>::new(key);
+    let passed = committed.close::<M, S, P, W>(answer, z, key, y, Poly::new(c), masks)?;
+    if passed {
+        write_record::<S>(record, counter, digest, answer, c);
+    }
+    Ok(passed)
 }

@@ -1,9 +1,6 @@
 // The end of a source, in the middle of an attempt.
 use refusal::Fault;
+use steps::Ended;
 
 /// Which source ended, and where.
-#[derive(Clone, Copy)]
-pub enum Stopped {
-    Nonces(Fault),
-    Masks(Fault),
-}
+pub type Stopped = Ended<Fault>;

@@ -5,7 +5,8 @@ use Rattle.std.proofs.lemmas.Nat.{mul-le, div_below, mod_below}
 use Rattle.std.proofs.lemmas.List.{length-take-le, length-drop, get_or-take, get_or-drop, drop-take}
 use Rattle.std.proofs.lemmas.Slice.{take-put_mid_below, between-put_mid}
 use Rattle.ring.specs.Laws.{Proper}
-use Rattle.ring.specs.Ring.{Residues}
+use Rattle.ring.specs.Ring.{Residues, plus}
+use Rattle.ring.proofs.Polynomials.{plus-residues}
 use Rattle.polys.specs.Area.{row}
 
 module _ (n : ℕ) where
@@ -65,10 +66,14 @@ module _ (n : ℕ) where
       subst (λ (d : ℕ). Written f (i + 1) (put_mid (i * d) (i * d + d - i * d) area ys)) (sym same) next
 
   -- an area of h rows is residues where all of them are
-  pub rows-residues : (p h : ℕ) (area : List ℕ) → 0 < n → length area ≡ h * n → ((k : ℕ) → k < h → Residues p (row n k area)) → Residues p area
+  rows-residues : (p h : ℕ) (area : List ℕ) → 0 < n → length area ≡ h * n → ((k : ℕ) → k < h → Residues p (row n k area)) → Residues p area
   rows-residues p h area some long r q l =
       let d : q / n < h = div_below q n h some (omega arith) in
       let m = mod_below q n some in
       let b = row_before (q / n) h d in
       let e = row-long (q / n) area (omega arith) in
       subst (λ (v : ℕ). v < p) (row_at (q / n) area (q % n) m ∙ ap (λ (k : ℕ). get_or area k 0) (div-add-mod' q n)) (r (q / n) d (q % n) (omega arith))
+
+  -- so it is where each row is a sum
+  pub sums_residues : (p h : ℕ) (f g : ℕ → List ℕ) (area : List ℕ) → 0 < n → 0 < p → length area ≡ h * n → Written (λ (k : ℕ). plus p (f k) (g k)) h area → Residues p area
+  sums_residues p h f g area some big long w = rows-residues p h area some long (λ k l. subst (Residues p) (sym (w k l)) (plus-residues p (f k) (g k) big))

@@ -174,9 +174,17 @@ module _ (s : Params) (m : ℕ) (area : List ℕ) where
         (λ c l. get_or-drop n (map v (counting 0 (2 * n))) c 0 ∙ get_or-map-range_with_len v 0 (2 * n) (n + c) (n + c) 0 (omega arith) (omega arith) ∙ sym (get_or-map-range_with_len v n n c (n + c) 0 (omega arith) refl))
         ∙ polynomial-sum p n m 1 area two n m (sym (one-mul n)) (sym (one-mul m))
 
+-- row k of the shares of a commitment, for the shares of y1 and y2 in the area y
+abbrev pub commit_row : Params → ℕ → List ℕ → List ℕ → ℕ → List ℕ
+commit_row s m a y k = plus s.p (product s.p a (row s.n k y)) (row s.n (m + k) y)
+
+-- row k of the shares of a response
+abbrev pub respond_row : Params → List ℕ → List ℕ → List ℕ → ℕ → List ℕ
+respond_row s key c y k = plus s.p (product s.p (row s.n k key) c) (row s.n k y)
+
 -- each row of r is a times that of y1, and that of y2
 pub commit_value : (s : Params) (m : ℕ) (a y r : List ℕ) → length r ≡ m * s.n → length y ≡ 2 * m * s.n
-    → Written s.n (λ (k : ℕ). plus s.p (product s.p a (row s.n k y)) (row s.n (m + k) y)) m r
+    → Written s.n (commit_row s m a y) m r
     → values s m s.n r ≡ plus s.p (product s.p a (take s.n (recombined s m y))) (drop s.n (recombined s m y))
 commit_value s m a y r lr ly w =
     let p = s.p in
@@ -190,7 +198,7 @@ commit_value s m a y r lr ly w =
 
 -- each row of z is that of the key times c, and that of y
 pub respond_value : (s : Params) (m : ℕ) (key y c z : List ℕ) → 0 < s.p → length key ≡ 2 * m * s.n → length y ≡ 2 * m * s.n → length z ≡ 2 * m * s.n → Proper s.n s.p c
-    → Written s.n (λ (k : ℕ). plus s.p (product s.p (row s.n k key) c) (row s.n k y)) (2 * m) z
+    → Written s.n (respond_row s key c y) (2 * m) z
     → recombined s m z ≡ plus s.p (product s.p (take s.n (recombined s m key)) c) (take s.n (recombined s m y)) ++ plus s.p (product s.p (drop s.n (recombined s m key)) c) (drop s.n (recombined s m y))
 respond_value s m key y c z some lk ly lz proper w =
     let p = s.p in

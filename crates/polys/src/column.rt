@@ -30,8 +30,8 @@ pub fn gather<const M: usize>(area: &[u32], n: usize, c: usize) -> Shares<M>
     ensures { result ≡ shares_of n M area.now c }
 {
     let mut shares = [0; M];
-    for i in 0..M {
-        shares[i] = area[place(n, M, c, i)];
+    for (i, share) in shares.iter_mut().enumerate() {
+        *share = area[place(n, M, c, i)];
     }
     shares
 }
@@ -43,7 +43,7 @@ pub fn scatter<const M: usize>(shares: Shares<M>, area: &mut [u32], n: usize, c:
     ensures written { shares_of n M area.new c ≡ shares.entry }
     ensures others { (k : ℕ) → k ≢ c → shares_of n M area.new k ≡ shares_of n M area.old k }
 {
-    for i in 0..M {
-        area[place(n, M, c, i)] = shares[i];
+    for (i, share) in shares.iter().enumerate() {
+        area[place(n, M, c, i)] = *share;
     }
 }

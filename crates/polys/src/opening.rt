@@ -34,8 +34,8 @@ pub fn open_poly<const M: usize, S: ParamSet, W: Source>(
     ensures opened { Spends (S.params.n * ((residue_rule S.params.p).cost * pairs M)) result (W.flow masks.old) (W.flow masks.new) (λ _. out.new ≡ values S.params M S.params.n r.entry.area.now) }
     ensures residues { OnOk result (Residues S.params.p out.new) }
 {
-    'coefficients: for c in 0..S::degree() {
-        out[c] = r.open_coefficient(c, masks)?;
+    'coefficients: for (c, coefficient) in out.iter_mut().enumerate() {
+        *coefficient = r.open_coefficient(c, masks)?;
     }
     Ok(())
 }

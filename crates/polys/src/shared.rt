@@ -1,5 +1,5 @@
 // Polynomials in shares, with what is known of the area that they stand in.
-ghost use Rattle.std.specs.Prelude.{◌≡◌, ◌*◌, ◌<◌, ◌≤◌, length};
+ghost use Rattle.std.specs.Prelude.{◌≡◌, ⊤, ◌*◌, ◌<◌, ◌≤◌, length};
 ghost use Rattle.polys.specs.Area.{shares_of};
 ghost use Rattle.ring.specs.Ring.{Residues};
 ghost use Rattle.shares.specs.Groups.{residue_rule};
@@ -23,6 +23,10 @@ pub struct Shared<'a, const K: usize, const M: usize, S: ParamSet> {
 
 // By hand, since no derive goes over facts of what is lent.
 impl<'a, const K: usize, const M: usize, S: ParamSet> Clone for Shared<'a, K, M, S> {
+    ghost is_clone = { λ x y. y ≡ x };
+
+    ghost is_infallible = { λ _. ⊤ };
+
     fn clone(&self) -> Result<Self, AllocError> {
         Ok(*self)
     }

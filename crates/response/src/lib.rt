@@ -70,8 +70,8 @@ pub fn open_response<const M: usize, S: ParamSet, W: Source>(
     requires near { all_near S.params (map (centre S.params.p) (recombined S.params M z.area.now)) ≡ true }
     ensures { Spends (2 * S.params.n * ((residue_rule S.params.p).cost * pairs M)) result (W.flow masks.old) (W.flow masks.new) (λ _. out.new ≡ map (centre S.params.p) (recombined S.params M z.entry.area.now)) }
 {
-    'coefficients: for c in 0..coefficients::<S>() {
-        out[c] = open_centred(z, c, masks)?;
+    'coefficients: for (c, coefficient) in out.iter_mut().enumerate() {
+        *coefficient = open_centred(z, c, masks)?;
     }
     Ok(())
 }

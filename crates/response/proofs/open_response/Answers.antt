@@ -15,27 +15,24 @@ open_centred-requires g c =
     let s = g.S.ParamSet.params in
     let least = g.S.ParamSet.sound.n_least in
     let small = g.S.ParamSet.sound.reach_small in
-    let n = c.coefficients-c-end.ensures in
     let h : c.coefficients.c < 2 * s.n = omega arith in
     (search rules, (h, let d = near_value s g.row.M c.args.z.area.now c.coefficients.c c.requires.near h in omega arith))
 
 pub coefficients-preserved : goal.coefficients-preserved
 coefficients-preserved g c =
-    let d = c.in_ok-out.ensures.by in
+    let d = c.in_ok-coefficient.ensures.by in
     let h : c.coefficients.c < length c.coefficients.out = search rules in
-    let fits : SFits w16 c.in_ok-out.field-0 = search rules in
+    let fits : SFits w16 c.in_ok-coefficient.field-0 = search rules in
     filling-more (pos 0) _ _ _ c.coefficients.c c.coefficients.out _ _ _ h d.0 (to_z-of_z w16 _ fits ∙ d.1) c.coefficients.invariant
 
-pub returns-in_err-out : goal.returns-in_err-out
-returns-in_err-out g c =
-    let n = c.coefficients-c-end.ensures in
+pub returns-in_err-coefficient : goal.returns-in_err-coefficient
+returns-in_err-coefficient g c =
     let p = err_from_is_err_and c.from_residual.result c.from_residual.ensures.1 in
-    rw (p.1, p.2) record { by = filling-short (pos 0) _ _ _ (2 * g.S.ParamSet.params.n) c.coefficients.c c.coefficients.out _ _ _ (omega arith) c.in_err-out.ensures.by c.coefficients.invariant }
+    rw (p.1, p.2) record { by = filling-short (pos 0) _ _ _ (2 * g.S.ParamSet.params.n) c.coefficients.c c.coefficients.out _ _ _ (omega arith) c.in_err-coefficient.ensures.by c.coefficients.invariant }
 
 pub returns : goal.returns
 returns g c =
     let s = g.S.ParamSet.params in
     let z = c.args.z.area.now in
-    let n = c.coefficients-c-end.ensures in
     let all = filling-all (pos 0) (λ (k : ℕ). centre s.p (recombine (residue_rule s.p) (shares_of s.n g.row.M z k))) ((residue_rule s.p).cost * pairs g.row.M) (g.W.Source.flow c.args.masks.now) (2 * s.n) c.coefficients.c c.coefficients.out (g.W.Source.flow c.coefficients.masks) (omega arith) (c.coefficients.auto.out ∙ c.requires.out) c.coefficients.invariant in
     record { by = (all.0, all.1 ∙ centred_values s g.row.M z) }
