@@ -155,16 +155,10 @@ impl World {
         ensures card { self.new.card ≡ self.old.card }
         ensures split { vec_len self.new.a ≡ vec_len self.old.a }
     {
-        let count = self.a.len();
-        if index < count {
-            self.a[index] = value;
-            return true;
+        match index.checked_sub(self.a.len()) {
+            None => poke(self.a.as_mut_slice(), index, value),
+            Some(index) => poke(self.t.as_mut_slice(), index, value),
         }
-        if index - count < self.t.len() {
-            self.t[index - count] = value;
-            return true;
-        }
-        false
     }
 
     // Writes a word of an area, or says that it has no such word.
@@ -250,7 +244,7 @@ impl World {
     {
         let mut done = 0;
         let mut last = None;
-        'calls: for _turn in 0..times {
+        'calls: for _ in 0..times {
             let answer = self.call(heap, call)?;
             done += u32::from(answer.is_ok());
             last = Some(answer);
