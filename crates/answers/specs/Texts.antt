@@ -3,6 +3,8 @@ use Rattle.std.specs.Prelude.{ℕ, Bool, true, false, List, [], ◌++◌, is_ok,
 use Rattle.refusal.specs.Told.{counts_text, told}
 use Rattle.refusal.specs.declared.Refusal.{Refusal}
 use Rattle.card.specs.declared.state.Signed.{Signed as Made}
+use Rattle.calls.specs.declared.reply.Reply.{Reply}
+use Rattle.calls.specs.declared.reply.Reply.TheVariants as replies
 use Rattle.script.specs.Streams.{stream_name}
 use Rattle.answers.specs.Spelling.{hex_text, spell}
 use Rattle.answers.specs.declared.answer.Answer.{Answer}
@@ -20,6 +22,12 @@ answer_is_ok (Remasked r) = is_ok r
 answer_is_ok (Reported r) = true
 answer_is_ok (NoCard c) = false
 answer_is_ok (Filled s r) = is_ok r
+
+-- what a card's reply is told as
+abbrev pub answer_of : Reply → Answer
+answer_of (replies.Signed r) = Signed r
+answer_of (replies.Remasked r) = Remasked r
+answer_of (replies.Reported r) = Reported r
 
 abbrev pub call_name : Call → List ℕ
 call_name (Sign digest tries) = codes "sign"

@@ -1,8 +1,9 @@
 // What a line answers, and how it is told.
 ghost use Rattle.std.specs.Prelude.{◌≡◌, Some};
-ghost use Rattle.answers.specs.Texts.{answer_is_ok, answer_text, told_text};
+ghost use Rattle.answers.specs.Texts.{answer_is_ok, answer_of, answer_text, told_text};
 
 use crate::text::Hex;
+use calls::Reply;
 use card::{Report, Signed};
 use life::Call;
 use refusal::Refusal;
@@ -49,49 +50,50 @@ impl Answer {
     }
 }
 
+// What a card's reply is told as.
+impl From<Reply> for Answer {
+    ghost from_gives = { λ reply r. r ≡ answer_of reply };
+
+    fn from(reply: Reply) -> Answer {
+        match reply {
+            Reply::Signed(result) => Answer::Signed(result),
+            Reply::Remasked(result) => Answer::Remasked(result),
+            Reply::Reported(report) => Answer::Reported(report),
+        }
+    }
+}
+
 impl fmt::Display for Answer {
     ghost output = { λ a. Some (answer_text a) };
 
     fn fmt<W: fmt::Write>(&self, f: &mut fmt::Formatter<W>) -> fmt::Result {
         match self {
-            Answer::Checked(result) => match result {
-                Ok(payment) => write!(
-                    f,
-                    "check ok counter {} digest {}",
-                    payment.counter,
-                    Hex {
-                        bytes: &payment.digest
-                    }
-                ),
-                Err(refusal) => write!(f, "check refused {refusal}"),
-            },
+            Answer::Checked(Ok(payment)) => {
+                let digest = Hex {
+                    bytes: &payment.digest,
+                };
+                write!(f, "check ok counter {} digest {digest}", payment.counter)
+            }
+            Answer::Checked(Err(refusal)) => write!(f, "check refused {refusal}"),
             Answer::NoTill => write!(f, "check no till"),
-            Answer::Loaded(result) => match result {
-                Ok(masks) => write!(f, "load ok masks {masks}"),
-                Err(refusal) => write!(f, "load refused {refusal}"),
-            },
-            Answer::Signed(result) => match result {
-                Ok(signed) => write!(f, "sign ok counter {} {}", signed.counter, signed.counts),
-                Err(refusal) => write!(f, "sign refused {refusal}"),
-            },
-            Answer::Remasked(result) => match result {
-                Ok(masks) => write!(f, "remask ok masks {masks}"),
-                Err(refusal) => write!(f, "remask refused {refusal}"),
-            },
+            Answer::Loaded(Ok(masks)) => write!(f, "load ok masks {masks}"),
+            Answer::Loaded(Err(refusal)) => write!(f, "load refused {refusal}"),
+            Answer::Signed(Ok(signed)) => {
+                write!(f, "sign ok counter {} {}", signed.counter, signed.counts)
+            }
+            Answer::Signed(Err(refusal)) => write!(f, "sign refused {refusal}"),
+            Answer::Remasked(Ok(masks)) => write!(f, "remask ok masks {masks}"),
+            Answer::Remasked(Err(refusal)) => write!(f, "remask refused {refusal}"),
             Answer::Reported(report) => write!(
                 f,
                 "report counter {} shares {}",
                 report.counter, report.shares
             ),
-            Answer::NoCard(call) => match call {
-                Call::Sign { .. } => write!(f, "sign no card"),
-                Call::Remask => write!(f, "remask no card"),
-                Call::Report => write!(f, "report no card"),
-            },
-            Answer::Filled(stream, result) => match result {
-                Ok(()) => write!(f, "{stream} ok"),
-                Err(refusal) => write!(f, "{stream} refused {refusal}"),
-            },
+            Answer::NoCard(Call::Sign { .. }) => write!(f, "sign no card"),
+            Answer::NoCard(Call::Remask) => write!(f, "remask no card"),
+            Answer::NoCard(Call::Report) => write!(f, "report no card"),
+            Answer::Filled(stream, Ok(())) => write!(f, "{stream} ok"),
+            Answer::Filled(stream, Err(refusal)) => write!(f, "{stream} refused {refusal}"),
         }
     }
 }

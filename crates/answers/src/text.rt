@@ -20,22 +20,11 @@ pub struct Listed<'a> {
     pub words: &'a [u32],
 }
 
-fn digit(value: u8) -> char
-    requires { value < 16 }
-    ensures { result ≡ digit_glyph false value }
-{
-    if value < 10 {
-        (b'0' + value) as char
-    } else {
-        (b'a' + (value - 10)) as char
-    }
-}
-
 fn write_hex<W: fmt::Write>(bytes: &[u8], f: &mut fmt::Formatter<W>) -> fmt::Result
     ensures { WritesOnOk W.write_str_gives f.old result (spell hex_text bytes.now) f.new }
 {
     'bytes: for byte in bytes {
-        write!(f, "{}{}", digit(*byte / 16), digit(*byte % 16))?;
+        write!(f, "{byte:02x}")?;
     }
     Ok(())
 }

@@ -4,9 +4,5 @@
 use std::io;
 
 fn main(rt: HostRuntime) -> io::Result<()> {
-    let result = runner::run(&rt);
-    if let Err(e) = &result {
-        eprintln!(rt; "scenario: {e}")?;
-    }
-    result
+    runner::run(&rt)
 }

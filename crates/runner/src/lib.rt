@@ -1,9 +1,12 @@
 // A scenario from standard input, carried out line by line. What it prints is tested, not proved.
 #![tactic(auto)]
 
+mod failed;
+
 use answers::{Answer, Listed, Told};
-use script::{Action, Command, Unread, parse};
-use std::alloc::{AllocError, Global};
+use failed::Failed;
+use script::{Action, Command, parse};
+use std::alloc::Global;
 use std::io;
 use std::io::{BufRead, BufReader, BufWriter, Write};
 use world::World;
@@ -17,13 +20,12 @@ fn tell<W: Write>(out: &mut W, world: &World, answer: Answer) -> io::Result<()> 
     writeln!(out, "{told}")
 }
 
-// Carries a line out, and tells whether it could be understood.
 fn carry_out<W: Write>(
     out: &mut W,
     heap: Global,
     world: &mut World,
     action: Action,
-) -> io::Result<bool> {
+) -> Result<(), Failed> {
     match action {
         Action::WordsOfA(words) => world.set_a(words),
         Action::WordsOfT(words) => world.set_t(words),
@@ -39,7 +41,11 @@ fn carry_out<W: Write>(
         }
         Action::Work(words) => world.set_work(words),
         Action::Room(bytes) => world.set_room(bytes),
-        Action::Poke { area, index, value } => return Ok(world.poke(area, index, value)),
+        Action::Poke { area, index, value } => {
+            if !world.poke(area, index, value) {
+                return Err(Failed::NotUnderstood);
+            }
+        }
         Action::Show(area) => {
             let words = world.show(heap, area)?;
             let listed = Listed {
@@ -61,53 +67,49 @@ fn carry_out<W: Write>(
             }
         }
     }
-    Ok(true)
+    Ok(())
 }
 
-// The same of any line; before a set is chosen there is no world.
-fn obey<W: Write>(
-    out: &mut W,
-    heap: Global,
-    world: &mut Option<World>,
-    command: Command,
-) -> io::Result<bool> {
-    match command {
-        Command::Nothing => Ok(true),
-        Command::Start(set) => {
-            *world = Some(World::new(heap, set)?);
-            Ok(true)
-        }
-        Command::Act(action) => match world {
-            Some(world) => carry_out(out, heap, world, action),
-            None => Ok(false),
-        },
-    }
-}
-
+// Carries a line out; before a set is chosen there is no world.
 fn take_line<W: Write>(
     out: &mut W,
     heap: Global,
     world: &mut Option<World>,
     line: &[u8],
-) -> io::Result<bool> {
-    match parse(heap, line) {
-        Ok(command) => obey(out, heap, world, command),
-        Err(Unread::NotUnderstood) => Ok(false),
-        Err(Unread::Memory) => Err(io::Error::from(AllocError)),
+) -> Result<(), Failed> {
+    match parse(heap, line)? {
+        Command::Nothing => Ok(()),
+        Command::Start(set) => {
+            *world = Some(World::new(heap, set)?);
+            Ok(())
+        }
+        Command::Act(action) => match world {
+            Some(world) => carry_out(out, heap, world, action),
+            None => Err(Failed::NotUnderstood),
+        },
     }
 }
 
-pub fn run(rt: &HostRuntime) -> io::Result<()> {
+fn carry_all(rt: &HostRuntime) -> io::Result<()> {
     let heap = rt.alloc();
     let mut out = BufWriter::new(heap, rt.stdout())?;
     let mut world = None;
-    let mut number: u64 = 0;
-    'lines: for line in BufReader::new(heap, rt.stdin())?.split(heap, b'\n') {
-        let line = line?;
-        number = number.wrapping_add(1);
-        if !take_line(&mut out, heap, &mut world, line.as_slice())? {
-            writeln!(out, "line {number} not understood")?;
+    let lines = BufReader::new(heap, rt.stdin())?.split(heap, b'\n');
+    'lines: for (number, line) in (1..=u64::MAX).zip(lines) {
+        match take_line(&mut out, heap, &mut world, line?.as_slice()) {
+            Ok(()) => {}
+            Err(Failed::NotUnderstood) => writeln!(out, "line {number} not understood")?,
+            Err(Failed::Stopped(error)) => return Err(error),
         }
     }
     out.flush()
+}
+
+// The whole of a program: why it stopped before its end is told on standard error.
+pub fn run(rt: &HostRuntime) -> io::Result<()> {
+    let result = carry_all(rt);
+    if let Err(e) = &result {
+        eprintln!(rt; "scenario: {e}")?;
+    }
+    result
 }

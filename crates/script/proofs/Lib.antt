@@ -1,2 +1,3 @@
+mod Pairs
 mod Rows
 mod Split

@@ -25,9 +25,13 @@ Quiet (byte ∷ rest) = byte ≡ 35
 abbrev pub Listed : {A : Type 0} → (List ℕ → A → Type 0) → List ℕ → List ℕ → List A → Type 0
 Listed write name line values = ((line ≡ name) × (values ≡ [])) ⊎ ((text : List ℕ) × (line ≡ name ++ (32 ∷ text)) × Writes write text values)
 
+-- a name and one value
+abbrev pub Valued : {A : Type 0} → (List ℕ → A → Type 0) → List ℕ → List ℕ → A → Type 0
+Valued write name line x = (word : List ℕ) × (line ≡ name ++ (32 ∷ word)) × write word x
+
 -- a name and one number, at most max
 abbrev pub Numbered : List ℕ → ℕ → List ℕ → ℕ → Type 0
-Numbered name max line n = (word : List ℕ) × (line ≡ name ++ (32 ∷ word)) × Number max word n
+Numbered name max line n = Valued (Number max) name line n
 
 -- a word source's name and what the source becomes; a seed is 32 bytes
 abbrev pub Fills : List ℕ → List ℕ → Supply → Type 0

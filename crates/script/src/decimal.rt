@@ -1,5 +1,5 @@
 // Decimal numbers.
-ghost use Rattle.std.specs.Prelude.{ℕ, List};
+ghost use Rattle.std.specs.Prelude.{◌≡◌, ◌≢◌, ℕ, List, MatchOption, slice_index};
 ghost use Rattle.script.specs.Answers.{Reads};
 ghost use Rattle.script.specs.Words.{Decimal, Integer, Number, Writes};
 ghost use Rattle.std.specs.Option.{SomeIff};
@@ -10,14 +10,22 @@ ghost use Rattle.script.specs.Integers.{number_solid, integer_solid};
 use crate::unread::Unread;
 use std::alloc::Global;
 
+// A word with no plus sign in front, which `parse` would take.
+fn unsigned(word: &str) -> Option<&str>
+    ensures { MatchOption result (slice_index word.now 0 ≡ 43) (λ plain. (plain.now ≡ word.now) × (slice_index word.now 0 ≢ 43)) }
+{
+    if word.starts_with('+') {
+        None
+    } else {
+        Some(word)
+    }
+}
+
 // The number that a word of digits writes, where it is at most `max`.
 pub fn number(word: &str, max: u64) -> Option<u64>
     ensures { SomeIff result (Decimal max word.now) (digits_value 10 word.now) }
 {
-    if word.starts_with('+') {
-        return None;
-    }
-    match word.parse::<u64>() {
+    match unsigned(word)?.parse::<u64>() {
         Ok(number) if number <= max => Some(number),
         _ => None,
     }
@@ -34,17 +42,54 @@ pub trait Entry: Sized {
     ghost solid: { (word : List ℕ) (x : Self) → writes word x → LacksByte 32 word };
 }
 
-// A word of an area.
+impl Entry for u8 {
+    ghost writes = { Number 255 };
+
+    ghost solid = { number_solid 255 };
+
+    fn read(word: &str) -> Result<u8, Unread> {
+        Ok(number(word, u64::from(u8::MAX)).ok_or(Unread::NotUnderstood)? as u8)
+    }
+}
+
+impl Entry for u16 {
+    ghost writes = { Number 65535 };
+
+    ghost solid = { number_solid 65535 };
+
+    fn read(word: &str) -> Result<u16, Unread> {
+        Ok(number(word, u64::from(u16::MAX)).ok_or(Unread::NotUnderstood)? as u16)
+    }
+}
+
+// A word of an area, for one.
 impl Entry for u32 {
     ghost writes = { Number 4294967295 };
 
     ghost solid = { number_solid 4294967295 };
 
     fn read(word: &str) -> Result<u32, Unread> {
-        match number(word, u32::MAX as u64) {
-            Some(number) => Ok(number as u32),
-            None => Err(Unread::NotUnderstood),
-        }
+        Ok(number(word, u64::from(u32::MAX)).ok_or(Unread::NotUnderstood)? as u32)
+    }
+}
+
+impl Entry for u64 {
+    ghost writes = { Number 18446744073709551615 };
+
+    ghost solid = { number_solid 18446744073709551615 };
+
+    fn read(word: &str) -> Result<u64, Unread> {
+        number(word, u64::MAX).ok_or(Unread::NotUnderstood)
+    }
+}
+
+impl Entry for usize {
+    ghost writes = { Number 18446744073709551615 };
+
+    ghost solid = { number_solid 18446744073709551615 };
+
+    fn read(word: &str) -> Result<usize, Unread> {
+        Ok(number(word, usize::MAX as u64).ok_or(Unread::NotUnderstood)? as usize)
     }
 }
 
@@ -55,13 +100,7 @@ impl Entry for i8 {
     ghost solid = { integer_solid };
 
     fn read(word: &str) -> Result<i8, Unread> {
-        if word.starts_with('+') {
-            return Err(Unread::NotUnderstood);
-        }
-        match word.parse::<i8>() {
-            Ok(number) => Ok(number),
-            Err(_) => Err(Unread::NotUnderstood),
-        }
+        Ok(unsigned(word).ok_or(Unread::NotUnderstood)?.parse::<i8>()?)
     }
 }
 

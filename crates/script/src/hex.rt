@@ -32,15 +32,13 @@ fn pair(high: u8, low: u8) -> Option<u8>
 pub fn hex_bytes(heap: Global, word: &[u8]) -> Result<Vec<u8>, Unread>
     ensures { Reads (λ v. Spells word.now v.items) ((bytes : List ℕ) → Spells word.now bytes → ⊥) result }
 {
-    if word.is_empty() || word.len() % 2 == 1 {
+    let (pairs, odd) = word.as_chunks::<2>();
+    if pairs.is_empty() || !odd.is_empty() {
         return Err(Unread::NotUnderstood);
     }
     let mut bytes = Vec::new(heap);
-    'pairs: for i in 0..word.len() / 2 {
-        let Some(byte) = pair(word[2 * i], word[2 * i + 1]) else {
-            return Err(Unread::NotUnderstood);
-        };
-        bytes.push(byte)?;
+    'pairs: for digits in pairs {
+        bytes.push(pair(digits[0], digits[1]).ok_or(Unread::NotUnderstood)?)?;
     }
     Ok(bytes)
 }
@@ -50,10 +48,5 @@ pub fn hex_32(heap: Global, word: &[u8]) -> Result<[u8; 32], Unread>
     ensures { Reads (λ v. Spells word.now v × (length v ≡ 32)) ((bytes : List ℕ) → length bytes ≡ 32 → Spells word.now bytes → ⊥) result }
 {
     let bytes = hex_bytes(heap, word)?;
-    if bytes.len() != 32 {
-        return Err(Unread::NotUnderstood);
-    }
-    let mut array = [0; 32];
-    array.copy_from_slice(bytes.as_slice());
-    Ok(array)
+    Ok(<[u8; 32]>::try_from(bytes.as_slice())?)
 }

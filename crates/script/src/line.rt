@@ -1,12 +1,12 @@
 // One line.
-ghost use Rattle.std.specs.Prelude.{◌≡◌, ℕ, ◌≤◌, List, ◌∷◌, ◌++◌, IfOk, Ok, codes};
+ghost use Rattle.std.specs.Prelude.{◌≡◌, ℕ, List, ◌∷◌, ◌++◌, IfOk, Ok, codes};
 ghost use Rattle.refusal.specs.Told.{area_name};
-ghost use Rattle.script.specs.Lines.{Asks, Calls, Fills, Listed, Numbered, Quiet, Says, spaced};
+ghost use Rattle.script.specs.Lines.{Asks, Calls, Fills, Listed, Quiet, Says, Valued, spaced};
 ghost use Rattle.script.specs.Streams.{stream_name};
 ghost use Rattle.script.specs.declared.command.Command.TheVariants.{Nothing};
 
 use crate::command::{Action, Call, Command, SetName, Shown, Supply};
-use crate::decimal::{Entry, number, numbers};
+use crate::decimal::{Entry, numbers};
 use crate::hex::{hex_32, hex_bytes};
 use crate::stream::Stream;
 use crate::unread::Unread;
@@ -24,6 +24,13 @@ fn first_word(text: &str) -> (&str, Option<&str>)
     }
 }
 
+// What stands before the first space of a text, and behind it.
+fn parted(text: &str) -> Result<(&str, &str), Unread>
+    ensures { IfOk result (λ parts. text.now ≡ parts.0.now ++ (32 ∷ parts.1.now)) }
+{
+    text.split_once(' ').ok_or(Unread::NotUnderstood)
+}
+
 // The values of a list, of which there may be none.
 fn listed<T: Entry + Drop>(heap: Global, rest: Option<&str>) -> Result<Vec<T>, Unread>
     ensures { IfOk result (λ v. (name : List ℕ) → Listed T.Entry.writes name (spaced name rest.entry) v.items) }
@@ -34,18 +41,11 @@ fn listed<T: Entry + Drop>(heap: Global, rest: Option<&str>) -> Result<Vec<T>, U
     }
 }
 
-// The one number behind a name.
-fn counted(rest: Option<&str>, max: u64) -> Result<u64, Unread>
-    ensures number { IfOk result (λ n. (name : List ℕ) → Numbered name max (spaced name rest.entry) n) }
-    ensures most { IfOk result (λ n. n ≤ max) }
+// The one value behind a name.
+fn one<T: Entry>(rest: Option<&str>) -> Result<T, Unread>
+    ensures { IfOk result (λ x. (name : List ℕ) → Valued T.Entry.writes name (spaced name rest.entry) x) }
 {
-    let Some(word) = rest else {
-        return Err(Unread::NotUnderstood);
-    };
-    match number(word, max) {
-        Some(number) => Ok(number),
-        None => Err(Unread::NotUnderstood),
-    }
+    T::read(rest.ok_or(Unread::NotUnderstood)?)
 }
 
 // The area of a name.
@@ -62,51 +62,35 @@ fn named_area(name: &str) -> Result<Area, Unread>
 fn poke_at(area: Area, place: &str) -> Result<Action, Unread>
     ensures { IfOk result (Asks (codes "poke " ++ (area_name area ++ (32 ∷ place.now)))) }
 {
-    let Some((index, value)) = place.split_once(' ') else {
-        return Err(Unread::NotUnderstood);
-    };
-    match (number(index, u64::MAX), number(value, u32::MAX as u64)) {
-        (Some(index), Some(value)) => Ok(Action::Poke {
-            area,
-            index: index as usize,
-            value: value as u32,
-        }),
-        _ => Err(Unread::NotUnderstood),
-    }
+    let (index, value) = parted(place)?;
+    Ok(Action::Poke {
+        area,
+        index: usize::read(index)?,
+        value: u32::read(value)?,
+    })
 }
 
 fn poke(rest: Option<&str>) -> Result<Action, Unread>
     ensures { IfOk result (Asks (spaced (codes "poke") rest.entry)) }
 {
-    let Some(text) = rest else {
-        return Err(Unread::NotUnderstood);
-    };
-    let Some((name, place)) = text.split_once(' ') else {
-        return Err(Unread::NotUnderstood);
-    };
+    let (name, place) = parted(rest.ok_or(Unread::NotUnderstood)?)?;
     poke_at(named_area(name)?, place)
 }
 
 fn show(rest: Option<&str>) -> Result<Action, Unread>
     ensures { IfOk result (Asks (spaced (codes "show") rest.entry)) }
 {
-    let Some(name) = rest else {
-        return Err(Unread::NotUnderstood);
-    };
-    Ok(Action::Show(named_area(name)?))
+    Ok(Action::Show(named_area(rest.ok_or(Unread::NotUnderstood)?)?))
 }
 
 fn generator(heap: Global, text: &str) -> Result<Supply, Unread>
     ensures { IfOk result (λ s. (name : List ℕ) → Fills name (name ++ (codes " generator " ++ text.now)) s) }
 {
-    let Some((seed, count)) = text.split_once(' ') else {
-        return Err(Unread::NotUnderstood);
-    };
-    let Some(count) = number(count, u64::MAX) else {
-        return Err(Unread::NotUnderstood);
-    };
-    let seed = hex_32(heap, seed.as_bytes())?;
-    Ok(Supply::Generator { seed, count })
+    let (seed, count) = parted(text)?;
+    Ok(Supply::Generator {
+        seed: hex_32(heap, seed.as_bytes())?,
+        count: u64::read(count)?,
+    })
 }
 
 // What a word source is to become, by what stands behind its name.
@@ -117,7 +101,7 @@ fn supply(heap: Global, text: &str) -> Result<Supply, Unread>
         ("tape", rest) => Ok(Supply::Tape(listed::<u32>(heap, rest)?)),
         ("generator", Some(rest)) => generator(heap, rest),
         ("health", rest) => Ok(Supply::Health {
-            cutoff: counted(rest, u32::MAX as u64)? as u32,
+            cutoff: one::<u32>(rest)?,
         }),
         _ => Err(Unread::NotUnderstood),
     }
@@ -126,9 +110,7 @@ fn supply(heap: Global, text: &str) -> Result<Supply, Unread>
 fn fill(heap: Global, stream: Stream, rest: Option<&str>) -> Result<Action, Unread>
     ensures { IfOk result (Asks (spaced (stream_name stream) rest.entry)) }
 {
-    let Some(text) = rest else {
-        return Err(Unread::NotUnderstood);
-    };
+    let text = rest.ok_or(Unread::NotUnderstood)?;
     Ok(Action::Fill {
         stream,
         supply: supply(heap, text)?,
@@ -138,10 +120,10 @@ fn fill(heap: Global, stream: Stream, rest: Option<&str>) -> Result<Action, Unre
 fn new_till(rest: Option<&str>) -> Result<Action, Unread>
     ensures { IfOk result (Asks (spaced (codes "till") rest.entry)) }
 {
-    if rest.is_none() {
-        return Ok(Action::NewTill(None));
+    match rest {
+        None => Ok(Action::NewTill(None)),
+        Some(word) => Ok(Action::NewTill(Some(u16::read(word)?))),
     }
-    Ok(Action::NewTill(Some(counted(rest, u16::MAX as u64)? as u16)))
 }
 
 fn check(heap: Global, rest: Option<&str>) -> Result<Call, Unread>
@@ -157,16 +139,10 @@ fn check(heap: Global, rest: Option<&str>) -> Result<Call, Unread>
 fn sign(heap: Global, text: &str) -> Result<Call, Unread>
     ensures { IfOk result (Calls (codes "sign " ++ text.now)) }
 {
-    let Some((digest, tries)) = text.split_once(' ') else {
-        return Err(Unread::NotUnderstood);
-    };
-    let Some(tries) = number(tries, u32::MAX as u64) else {
-        return Err(Unread::NotUnderstood);
-    };
-    let digest = hex_32(heap, digest.as_bytes())?;
+    let (digest, tries) = parted(text)?;
     Ok(Call::Sign {
-        digest,
-        tries: tries as u32,
+        digest: hex_32(heap, digest.as_bytes())?,
+        tries: u32::read(tries)?,
     })
 }
 
@@ -186,16 +162,11 @@ fn call(heap: Global, text: &str) -> Result<Call, Unread>
 fn repeat(heap: Global, rest: Option<&str>) -> Result<Action, Unread>
     ensures { IfOk result (Asks (spaced (codes "repeat") rest.entry)) }
 {
-    let Some(text) = rest else {
-        return Err(Unread::NotUnderstood);
-    };
-    let Some((count, line)) = text.split_once(' ') else {
-        return Err(Unread::NotUnderstood);
-    };
-    match number(count, u32::MAX as u64) {
-        None | Some(0) => Err(Unread::NotUnderstood),
-        Some(times) => Ok(Action::Repeat {
-            times: times as u32,
+    let (count, line) = parted(rest.ok_or(Unread::NotUnderstood)?)?;
+    match u32::read(count)? {
+        0 => Err(Unread::NotUnderstood),
+        times => Ok(Action::Repeat {
+            times,
             call: call(heap, line)?,
         }),
     }
@@ -212,11 +183,11 @@ fn action(heap: Global, text: &str) -> Result<Action, Unread>
         "a" => Ok(Action::WordsOfA(listed::<u32>(heap, rest)?)),
         "t" => Ok(Action::WordsOfT(listed::<u32>(heap, rest)?)),
         "secret" => Ok(Action::Secret(listed::<i8>(heap, rest)?)),
-        "shares" => Ok(Action::Shares(counted(rest, u8::MAX as u64)? as u8)),
+        "shares" => Ok(Action::Shares(one::<u8>(rest)?)),
         "nonces" => fill(heap, Stream::Nonces, rest),
         "masks" => fill(heap, Stream::Masks, rest),
-        "work" => Ok(Action::Work(counted(rest, u32::MAX as u64)? as u32)),
-        "room" => Ok(Action::Room(counted(rest, u32::MAX as u64)? as u32)),
+        "work" => Ok(Action::Work(one::<u32>(rest)?)),
+        "room" => Ok(Action::Room(one::<u32>(rest)?)),
         "poke" => poke(rest),
         "show" => show(rest),
         "till" => new_till(rest),
@@ -251,9 +222,6 @@ pub fn parse(heap: Global, line: &[u8]) -> Result<Command, Unread>
 {
     match line {
         [] | [b'#', ..] => Ok(Command::Nothing),
-        _ => match from_utf8(line) {
-            Ok(text) => command(heap, text),
-            Err(_) => Err(Unread::NotUnderstood),
-        },
+        _ => command(heap, from_utf8(line)?),
     }
 }

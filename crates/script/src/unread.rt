@@ -1,8 +1,11 @@
 // Why a line gave no command.
-ghost use Rattle.script.specs.declared.unread.Unread.TheVariants.{Memory};
+ghost use Rattle.script.specs.declared.unread.Unread.TheVariants.{Memory, NotUnderstood};
 ghost use Rattle.std.specs.Prelude.{◌≡◌};
 
 use std::alloc::{AllocError, AllocFailed};
+use std::array::TryFromSliceError;
+use std::num::ParseIntError;
+use std::str::Utf8Error;
 
 #[derive(Clone, Copy)]
 pub enum Unread {
@@ -23,5 +26,29 @@ impl<T: Drop> From<AllocFailed<T>> for Unread {
 
     fn from(_e: AllocFailed<T>) -> Unread {
         Unread::Memory
+    }
+}
+
+impl From<ParseIntError> for Unread {
+    ghost from_gives = { λ _ r. r ≡ NotUnderstood };
+
+    fn from(_e: ParseIntError) -> Unread {
+        Unread::NotUnderstood
+    }
+}
+
+impl From<TryFromSliceError> for Unread {
+    ghost from_gives = { λ _ r. r ≡ NotUnderstood };
+
+    fn from(_e: TryFromSliceError) -> Unread {
+        Unread::NotUnderstood
+    }
+}
+
+impl From<Utf8Error> for Unread {
+    ghost from_gives = { λ _ r. r ≡ NotUnderstood };
+
+    fn from(_e: Utf8Error) -> Unread {
+        Unread::NotUnderstood
     }
 }

@@ -13,7 +13,8 @@ use Rattle.life.specs.declared.call.Call.{Call}
 use Rattle.calls.specs.Replies.{Performs, areas}
 use Rattle.calls.specs.declared.reply.Reply.{Reply}
 use Rattle.world.specs.Areas.{lent}
-use Rattle.world.specs.Cards.{Performed, Records, answer_of, with_call}
+use Rattle.answers.specs.Texts.{answer_of}
+use Rattle.world.specs.Cards.{Performed, Records, with_call}
 use Rattle.world.specs.State.{with_made}
 use Rattle.world.specs.declared.card_state.CardState.{CardState}
 use Rattle.world.specs.declared.state.World.{World}

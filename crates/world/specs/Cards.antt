@@ -26,10 +26,13 @@ use Rattle.script.specs.declared.command.Supply.{Supply}
 use Rattle.script.specs.declared.command.Supply.TheVariants.{Tape, Generator, Health}
 use Rattle.script.specs.declared.stream.Stream.{Stream}
 use Rattle.script.specs.declared.stream.Stream.TheVariants.{Nonces, Masks}
+use Rattle.answers.specs.Texts.{answer_of}
 use Rattle.answers.specs.declared.answer.Answer.{Answer}
 use Rattle.answers.specs.declared.answer.Answer.TheVariants as answers
 use Rattle.world.specs.Areas.{lent}
 use Rattle.world.specs.declared.card_state.CardState.{CardState}
+use Rattle.world.specs.declared.card_state.Unfilled.{Unfilled}
+use Rattle.world.specs.declared.card_state.Unfilled.TheVariants.{Refused, Memory}
 
 -- at the start: one share, an empty secret, empty sources, no card, and areas of their sizes
 pub record Fresh (s : Params) (c : CardState) : Type 0 where
@@ -58,6 +61,11 @@ Supplies (Tape words) told f f' = Becomes (2 ^ 40 < vec_len words) told f f' (fe
 Supplies (Generator seed count) told f f' = Becomes (2 ^ 40 < count) told f f' (feed_flow f' ≡ from (stretched seed 0 count) Spent)
 Supplies (Health cutoff) told f f' = Becomes (Unfit cutoff) told f f' (Steady cutoff (feed_flow f) (feed_flow f'))
 
+-- a source that stays: it was refused, or memory ended
+abbrev pub Kept : Supply → Feed → Feed → Unfilled → Type 0
+Kept supply f f' (Refused e) = Supplies supply (Err e) f f'
+Kept supply f f' (Memory e) = f' ≡ f
+
 -- a source by its name, and with another in its place, and else as it was
 abbrev pub feed_of : CardState → Stream → Feed
 feed_of c Nonces = c.nonces
@@ -66,6 +74,15 @@ feed_of c Masks = c.masks
 abbrev pub with_feed : CardState → Stream → Feed → CardState
 with_feed c Nonces f = record { secret = c.secret; shares = c.shares; key = c.key; nonces = f; masks = c.masks; card = c.card; work = c.work; room = c.room }
 with_feed c Masks f = record { secret = c.secret; shares = c.shares; key = c.key; nonces = c.nonces; masks = f; card = c.card; work = c.work; room = c.room }
+
+-- another source in a source's place, or a refusal, and else as it was
+pub record Refills (stream : Stream) (supply : Supply) (told : Result (Unit {0}) Refusal) (c c' : CardState) : Type 0 where
+  pub supplied : Supplies supply told (feed_of c stream) (feed_of c' stream)
+  pub rest : c' ≡ with_feed c stream (feed_of c' stream)
+
+abbrev pub Unfills : Stream → Supply → CardState → CardState → Unfilled → Type 0
+Unfills stream supply c c' (Refused e) = Refills stream supply (Err e) c c'
+Unfills stream supply c c' (Memory e) = c' ≡ c
 
 -- with another secret and other sizes, and else as it was
 abbrev pub with_secret : CardState → Vec ℤ Global → CardState
@@ -104,12 +121,6 @@ pub record Loads (s : Params) (c : CardState) (public : List ℕ) (r : Result �
 -- the areas that a call is lent
 abbrev pub lent_areas : Params → CardState → (public : List ℕ) → Areas
 lent_areas s c public = areas (vec_items c.key) public (replicate (lent c.work (6 * c.shares * s.n)) 0) (replicate (lent c.room (size s)) 0)
-
--- what a card's reply is told as
-abbrev pub answer_of : Reply → Answer
-answer_of (Signed r) = answers.Signed r
-answer_of (Remasked r) = answers.Remasked r
-answer_of (Reported r) = answers.Reported r
 
 -- the last record after a reply: what the record area holds, where a record was made; else the one that it was
 abbrev pub Records : Reply → (bytes : List ℕ) (made made' : Vec ℕ Global) → Type 0

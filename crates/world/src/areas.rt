@@ -4,18 +4,6 @@ ghost use Rattle.world.specs.Areas.{lent};
 
 use std::alloc::{AllocError, Global};
 
-pub(crate) fn zeros(heap: Global, count: usize) -> Result<Vec<u32>, AllocError>
-    ensures { IfOk result (λ v. v.items ≡ replicate count 0) }
-{
-    vec![in heap; 0; count]
-}
-
-pub(crate) fn zero_bytes(heap: Global, count: usize) -> Result<Vec<u8>, AllocError>
-    ensures { IfOk result (λ v. v.items ≡ replicate count 0) }
-{
-    vec![in heap; 0; count]
-}
-
 // The size of an area that is lent where so much was asked for: one that is too large is refused whatever its size, so it is
 // lent one larger than it should be.
 pub(crate) fn lent_size(asked: usize, right: usize) -> usize

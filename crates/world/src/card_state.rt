@@ -1,20 +1,21 @@
 // A card, and what its calls are lent.
-ghost use Rattle.std.specs.Prelude.{◌≡◌, ◌*◌, IfOk, MatchResult};
-ghost use Rattle.world.specs.Cards.{Calls, Fresh, Loads, Records, Reshared, Supplies, answer_of};
-ghost use Rattle.world.specs.Tills.{params_of};
+ghost use Rattle.std.specs.Prelude.{◌≡◌, ◌*◌, IfOk, MatchResult, Ok};
+ghost use Rattle.world.specs.Cards.{Calls, Fresh, Kept, Loads, Records, Refills, Reshared, Supplies, Unfills};
+ghost use Rattle.refusal.specs.declared.Refusal.TheVariants.{SourceRange};
+ghost use Rattle.world.specs.declared.card_state.Unfilled.TheVariants.{Memory, Refused};
 
-use crate::areas::{lent_size, zero_bytes, zeros};
+use crate::areas::lent_size;
 use answers::Answer;
 use calls::{Reply, load, perform};
 use card::Card;
 use feed::Feed;
 use life::Call;
-use params::{ParamSet, SetI, SetS};
+use params::ParamSet;
 use refusal::Refusal;
 use ring::LongProduct;
-use script::{SetName, Supply};
+use script::{Stream, Supply};
 use std::alloc::{AllocError, Global};
-use words::Cutoff;
+use words::{Cutoff, OutOfRange};
 
 #[derive(Drop)]
 pub struct CardState {
@@ -36,37 +37,39 @@ fn work_size<S: ParamSet>(shares: u8) -> usize
     6 * shares as usize * S::degree()
 }
 
+// Why a word source stays what it was.
+#[derive(Drop)]
+pub(crate) enum Unfilled {
+    Refused(Refusal),
+    Memory(AllocError),
+}
+
+impl From<OutOfRange> for Unfilled {
+    ghost from_gives = { λ _ r. r ≡ Refused SourceRange };
+
+    fn from(_e: OutOfRange) -> Unfilled {
+        Unfilled::Refused(Refusal::SourceRange)
+    }
+}
+
+impl From<AllocError> for Unfilled {
+    ghost from_gives = { λ e r. r ≡ Memory e };
+
+    fn from(e: AllocError) -> Unfilled {
+        Unfilled::Memory(e)
+    }
+}
+
 // Puts another source in a source's place, or a health check over it; where none can be made so, it stays.
-pub(crate) fn refill(
-    feed: &mut Feed,
-    heap: Global,
-    supply: Supply,
-) -> Result<Result<(), Refusal>, AllocError>
-    ensures { MatchResult result (λ told. Supplies supply told feed.old feed.new) (λ _. feed.new ≡ feed.old) }
+fn refill(feed: &mut Feed, heap: Global, supply: Supply) -> Result<(), Unfilled>
+    ensures { MatchResult result (λ told. Supplies supply (Ok told) feed.old feed.new) (Kept supply feed.old feed.new) }
 {
     match supply {
-        Supply::Tape(words) => match Feed::tape(words) {
-            Ok(tape) => {
-                *feed = tape;
-                Ok(Ok(()))
-            }
-            Err(_) => Ok(Err(Refusal::SourceRange)),
-        },
-        Supply::Generator { seed, count } => match Feed::generator(seed, count) {
-            Ok(generator) => {
-                *feed = generator;
-                Ok(Ok(()))
-            }
-            Err(_) => Ok(Err(Refusal::SourceRange)),
-        },
-        Supply::Health { cutoff } => match Cutoff::new(cutoff) {
-            Ok(cutoff) => {
-                feed.put_check(heap, cutoff)?;
-                Ok(Ok(()))
-            }
-            Err(_) => Ok(Err(Refusal::SourceRange)),
-        },
+        Supply::Tape(words) => *feed = Feed::tape(words)?,
+        Supply::Generator { seed, count } => *feed = Feed::generator(seed, count)?,
+        Supply::Health { cutoff } => feed.put_check(heap, Cutoff::new(cutoff)?)?,
     }
+    Ok(())
 }
 
 // Where a record was made, the record area becomes the last record.
@@ -78,23 +81,12 @@ fn keep(reply: Reply, record: Vec<u8>, made: &mut Vec<u8>)
     }
 }
 
-// What a card's reply is told as.
-fn answer(reply: Reply) -> Answer
-    ensures { result ≡ answer_of reply }
-{
-    match reply {
-        Reply::Signed(result) => Answer::Signed(result),
-        Reply::Remasked(result) => Answer::Remasked(result),
-        Reply::Reported(report) => Answer::Reported(report),
-    }
-}
-
 impl CardState {
     // One share, an empty secret, empty sources, and no card.
-    fn new_in<S: ParamSet>(heap: Global) -> Result<CardState, AllocError>
+    pub(crate) fn new<S: ParamSet>(heap: Global) -> Result<CardState, AllocError>
         ensures { IfOk result (Fresh S.params) }
     {
-        let key = zeros(heap, 2 * S::degree())?;
+        let key = vec![in heap; 0; 2 * S::degree()]?;
         Ok(CardState {
             secret: Vec::new(heap),
             shares: 1,
@@ -107,20 +99,15 @@ impl CardState {
         })
     }
 
-    pub(crate) fn new(heap: Global, set: SetName) -> Result<CardState, AllocError>
-        ensures { IfOk result (Fresh (params_of set)) }
-    {
-        match set {
-            SetName::S => CardState::new_in::<SetS>(heap),
-            SetName::I => CardState::new_in::<SetI>(heap),
-        }
-    }
-
     // Another share count: a new key area, and no card.
-    fn set_shares_in<S: ParamSet>(&mut self, heap: Global, shares: u8) -> Result<(), AllocError>
+    pub(crate) fn set_shares<S: ParamSet>(
+        &mut self,
+        heap: Global,
+        shares: u8,
+    ) -> Result<(), AllocError>
         ensures { MatchResult result (λ _. Reshared S.params shares self.old self.new) (λ _. self.new ≡ self.old) }
     {
-        let key = zeros(heap, 2 * shares as usize * S::degree())?;
+        let key = vec![in heap; 0; 2 * shares as usize * S::degree()]?;
         self.shares = shares;
         self.key = key;
         self.card = None;
@@ -129,22 +116,23 @@ impl CardState {
         Ok(())
     }
 
-    pub(crate) fn set_shares(
+    // Puts another source in the place of the one of this name.
+    pub(crate) fn refill(
         &mut self,
         heap: Global,
-        set: SetName,
-        shares: u8,
-    ) -> Result<(), AllocError>
-        ensures { MatchResult result (λ _. Reshared (params_of set) shares self.old self.new) (λ _. self.new ≡ self.old) }
+        stream: Stream,
+        supply: Supply,
+    ) -> Result<(), Unfilled>
+        ensures { MatchResult result (λ told. Refills stream supply (Ok told) self.old self.new) (Unfills stream supply self.old self.new) }
     {
-        match set {
-            SetName::S => self.set_shares_in::<SetS>(heap, shares),
-            SetName::I => self.set_shares_in::<SetI>(heap, shares),
+        match stream {
+            Stream::Nonces => refill(&mut self.nonces, heap, supply),
+            Stream::Masks => refill(&mut self.masks, heap, supply),
         }
     }
 
     // Loads a card. Where the masks end there is none afterwards; at any other refusal the one that was there stays.
-    fn load_in<S: ParamSet>(&mut self, public: &mut [u32]) -> Result<u64, Refusal>
+    pub(crate) fn load<S: ParamSet>(&mut self, public: &mut [u32]) -> Result<u64, Refusal>
         ensures { Loads S.params self.old public.old result self.new public.new }
     {
         match load::<S, LongProduct, Feed>(
@@ -167,17 +155,8 @@ impl CardState {
         }
     }
 
-    pub(crate) fn load(&mut self, set: SetName, public: &mut [u32]) -> Result<u64, Refusal>
-        ensures { Loads (params_of set) self.old public.old result self.new public.new }
-    {
-        match set {
-            SetName::S => self.load_in::<SetS>(public),
-            SetName::I => self.load_in::<SetI>(public),
-        }
-    }
-
     // Makes a call of the card, if there is one. A record that it made becomes the last one.
-    fn call_in<S: ParamSet>(
+    pub(crate) fn call<S: ParamSet>(
         &mut self,
         heap: Global,
         call: &Call,
@@ -186,8 +165,10 @@ impl CardState {
     ) -> Result<Answer, AllocError>
         ensures { MatchResult result (λ a. Calls S.params call.now self.old.card self.old public.now made.old a self.new made.new) (λ _. (self.new ≡ self.old) × (made.new ≡ made.old)) }
     {
-        let mut work = zeros(heap, lent_size(self.work, work_size::<S>(self.shares)))?;
-        let mut record = zero_bytes(heap, lent_size(self.room, record::size::<S>()))?;
+        let words = lent_size(self.work, work_size::<S>(self.shares));
+        let bytes = lent_size(self.room, record::size::<S>());
+        let mut work = vec![in heap; 0; words]?;
+        let mut record = vec![in heap; 0; bytes]?;
         let Some(mut card) = self.card.take() else {
             return Ok(Answer::NoCard(*call));
         };
@@ -203,22 +184,6 @@ impl CardState {
         );
         self.card = Some(card);
         keep(reply, record, made);
-        Ok(answer(reply))
-    }
-
-    pub(crate) fn call(
-        &mut self,
-        heap: Global,
-        set: SetName,
-        call: &Call,
-        public: &[u32],
-        made: &mut Vec<u8>,
-    ) -> Result<Answer, AllocError>
-        ensures { MatchResult result (λ a. Calls (params_of set) call.now self.old.card self.old public.now made.old a self.new made.new) (λ _. (self.new ≡ self.old) × (made.new ≡ made.old)) }
-    {
-        match set {
-            SetName::S => self.call_in::<SetS>(heap, call, public, made),
-            SetName::I => self.call_in::<SetI>(heap, call, public, made),
-        }
+        Ok(Answer::from(reply))
     }
 }

@@ -3,6 +3,7 @@
 
 mod areas;
 mod card_state;
+mod in_set;
 mod state;
 mod till_state;
 

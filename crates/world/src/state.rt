@@ -1,26 +1,18 @@
 // The state, and a method for each line.
 ghost use Rattle.std.specs.Prelude.{◌≡◌, length, set, IfOk, IsOk, MatchResult, nat_lt, vec_len};
-ghost use Rattle.world.specs.Cards.{Reshared, with_secret, with_sizes};
+ghost use Rattle.world.specs.Cards.{Loads, Reshared, with_secret, with_sizes};
 ghost use Rattle.world.specs.State.{CardLine, Called, CutShort, FillLine, Fresh, LoadLine, OfCheck, Pokes, Repeated, RepeatsChecks, public, with_a, with_card, with_t, with_till, words_of};
 ghost use Rattle.world.specs.Tills.{Made, params_of};
 
 use crate::areas::{joined, part, poke};
-use crate::card_state::{CardState, refill};
+use crate::card_state::{CardState, Unfilled};
+use crate::in_set::in_set;
 use crate::till_state::{TillState, check};
 use answers::Answer;
-use params::{ParamSet, SetI, SetS};
-use refusal::Area;
+use params::ParamSet;
+use refusal::{Area, Refusal};
 use script::{Call, SetName, Shown, Stream, Supply};
 use std::alloc::{AllocError, Global};
-
-fn degree(set: SetName) -> usize
-    ensures { result ≡ (params_of set).n }
-{
-    match set {
-        SetName::S => SetS::degree(),
-        SetName::I => SetI::degree(),
-    }
-}
 
 #[derive(Drop)]
 pub struct World {
@@ -38,10 +30,16 @@ impl World {
     pub fn new(heap: Global, set: SetName) -> Result<World, AllocError>
         ensures { IfOk result (Fresh set) }
     {
-        let n = degree(set);
-        let a = vec![in heap; 0; n]?;
-        let t = vec![in heap; 0; n]?;
-        let card = CardState::new(heap, set)?;
+        in_set!(set, World::start(heap, set))
+    }
+
+    fn start<S: ParamSet>(heap: Global, set: SetName) -> Result<World, AllocError>
+        requires { params_of set ≡ S.params }
+        ensures { IfOk result (Fresh set) }
+    {
+        let a = vec![in heap; 0; S::degree()]?;
+        let t = vec![in heap; 0; S::degree()]?;
+        let card = CardState::new::<S>(heap)?;
         Ok(World {
             set,
             a,
@@ -64,6 +62,13 @@ impl World {
         ensures { result.now ≡ self.now.t.items }
     {
         self.t.as_slice()
+    }
+
+    // A copy of the public area, in one piece.
+    fn public(&self, heap: Global) -> Result<Vec<u32>, AllocError>
+        ensures { IfOk result (λ v. v.items ≡ public self.now) }
+    {
+        joined(heap, self.a.as_slice(), self.t.as_slice())
     }
 
     pub fn set_a(&mut self, words: Vec<u32>)
@@ -89,7 +94,7 @@ impl World {
         ensures shares { MatchResult result (λ _. Reshared (params_of self.old.set) shares self.old.card self.new.card) (λ _. self.new.card ≡ self.old.card) }
         ensures rest { self.new ≡ with_card self.old self.new.card }
     {
-        self.card.set_shares(heap, self.set, shares)
+        in_set!(self.set, self.card.set_shares(heap, shares))
     }
 
     // The sizes of the areas that later signings are lent.
@@ -114,24 +119,26 @@ impl World {
     ) -> Result<Answer, AllocError>
         ensures { MatchResult result (λ a. FillLine stream supply self.old a self.new) (λ _. self.new ≡ self.old) }
     {
-        match stream {
-            Stream::Nonces => Ok(Answer::Filled(
-                stream,
-                refill(&mut self.card.nonces, heap, supply)?,
-            )),
-            Stream::Masks => Ok(Answer::Filled(
-                stream,
-                refill(&mut self.card.masks, heap, supply)?,
-            )),
+        match self.card.refill(heap, stream, supply) {
+            Ok(()) => Ok(Answer::Filled(stream, Ok(()))),
+            Err(Unfilled::Refused(refusal)) => Ok(Answer::Filled(stream, Err(refusal))),
+            Err(Unfilled::Memory(error)) => Err(error),
         }
+    }
+
+    fn load_card(&mut self, public: &mut [u32]) -> Result<u64, Refusal>
+        ensures loads { Loads (params_of self.old.set) self.old.card public.old result self.new.card public.new }
+        ensures rest { self.new ≡ with_card self.old self.new.card }
+    {
+        in_set!(self.set, self.card.load(public))
     }
 
     // Loads a card.
     pub fn load(&mut self, heap: Global) -> Result<Answer, AllocError>
         ensures { MatchResult result (λ a. LoadLine self.old a self.new) (λ _. self.new ≡ self.old) }
     {
-        let mut public = joined(heap, self.a.as_slice(), self.t.as_slice())?;
-        let loaded = self.card.load(self.set, public.as_mut_slice());
+        let mut public = self.public(heap)?;
+        let loaded = self.load_card(public.as_mut_slice());
         part(
             public.as_slice(),
             self.a.as_mut_slice(),
@@ -148,16 +155,10 @@ impl World {
         ensures card { self.new.card ≡ self.old.card }
         ensures split { vec_len self.new.a ≡ vec_len self.old.a }
     {
-        let count = self.a.len();
-        if index < count {
-            self.a[index] = value;
-            return true;
+        match index.checked_sub(self.a.len()) {
+            None => poke(self.a.as_mut_slice(), index, value),
+            Some(index) => poke(self.t.as_mut_slice(), index, value),
         }
-        if index - count < self.t.len() {
-            self.t[index - count] = value;
-            return true;
-        }
-        false
     }
 
     // Writes a word of an area, or says that it has no such word.
@@ -176,7 +177,7 @@ impl World {
         ensures { IfOk result (λ v. v.items ≡ words_of self.now area) }
     {
         match area {
-            Area::Public => joined(heap, self.a.as_slice(), self.t.as_slice()),
+            Area::Public => self.public(heap),
             Area::Key => Vec::from_slice(heap, self.card.key.as_slice()),
         }
     }
@@ -186,8 +187,7 @@ impl World {
         ensures till { MatchResult result (λ _. Made (public self.old) last self.new.till) (λ _. self.new.till ≡ self.old.till) }
         ensures rest { self.new ≡ with_till self.old self.new.till }
     {
-        let mut key = Vec::from_slice(heap, self.a.as_slice())?;
-        key.extend_from_slice(self.t.as_slice())?;
+        let key = self.public(heap)?;
         self.till = Some(TillState { key, last });
         Ok(())
     }
@@ -202,9 +202,12 @@ impl World {
     fn card_call(&mut self, heap: Global, call: life::Call) -> Result<Answer, AllocError>
         ensures { MatchResult result (λ a. CardLine self.old call a self.new) (λ _. self.new ≡ self.old) }
     {
-        let public = joined(heap, self.a.as_slice(), self.t.as_slice())?;
-        self.card
-            .call(heap, self.set, &call, public.as_slice(), &mut self.made)
+        let public = self.public(heap)?;
+        in_set!(
+            self.set,
+            self.card
+                .call(heap, &call, public.as_slice(), &mut self.made)
+        )
     }
 
     // Makes a call once. A check wants no memory.
@@ -241,7 +244,7 @@ impl World {
     {
         let mut done = 0;
         let mut last = None;
-        'calls: for _turn in 0..times {
+        'calls: for _ in 0..times {
             let answer = self.call(heap, call)?;
             done += u32::from(answer.is_ok());
             last = Some(answer);

@@ -1,10 +1,11 @@
 // A till: its key area, and the last counter it took.
 ghost use Rattle.till.specs.Verdict.{last_after};
-ghost use Rattle.world.specs.Tills.{check_answer, params_of, till_after, verdict_of};
+ghost use Rattle.world.specs.Tills.{check_answer, till_after, verdict_of};
 ghost use Rattle.std.specs.Prelude.{◌≡◌};
 
+use crate::in_set::in_set;
 use answers::Answer;
-use params::{ParamSet, SetI, SetS};
+use params::ParamSet;
 use refusal::Refusal;
 use ring::LongProduct;
 use script::SetName;
@@ -18,7 +19,7 @@ pub struct TillState {
 
 impl TillState {
     // Shows a till of the set S a record.
-    fn check_in<S: ParamSet>(&mut self, bytes: &[u8]) -> Result<Payment, Refusal>
+    fn check<S: ParamSet>(&mut self, bytes: &[u8]) -> Result<Payment, Refusal>
         ensures answer { result ≡ verdict_of S.params self.old bytes.now }
         ensures last { self.new.last ≡ last_after self.old.last result }
         ensures key { self.new.key ≡ self.old.key }
@@ -29,18 +30,6 @@ impl TillState {
         self.last = last;
         answer
     }
-
-    // The same for a set by its name.
-    fn check(&mut self, set: SetName, bytes: &[u8]) -> Result<Payment, Refusal>
-        ensures answer { result ≡ verdict_of (params_of set) self.old bytes.now }
-        ensures last { self.new.last ≡ last_after self.old.last result }
-        ensures key { self.new.key ≡ self.old.key }
-    {
-        match set {
-            SetName::S => self.check_in::<SetS>(bytes),
-            SetName::I => self.check_in::<SetI>(bytes),
-        }
-    }
 }
 
 // Shows a till, if there is one, these bytes.
@@ -49,7 +38,7 @@ pub(crate) fn check(set: SetName, till: &mut Option<TillState>, bytes: &[u8]) ->
     ensures after { till.new ≡ till_after set till.old bytes.now }
 {
     match till {
-        Some(till) => Answer::Checked(till.check(set, bytes)),
+        Some(till) => Answer::Checked(in_set!(set, till.check(bytes))),
         None => Answer::NoTill,
     }
 }

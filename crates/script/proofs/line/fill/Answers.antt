@@ -6,4 +6,4 @@ use Rattle.script.proofs.line.fill.Goals as goal
 pub returns : goal.returns
 returns c =
     let name = stream_name c.args.stream in
-    subst (λ (rest : Option (Bor (List ℕ))). Fills name (spaced name rest) c.in_ok-supply.field-0) (sym c.in-Some.is) (c.in_ok-supply.ensures name)
+    subst (λ (rest : Option (Bor (List ℕ))). Fills name (spaced name rest) c.in_ok-supply.field-0) (sym c.in_ok-text.ensures.ok_part) (c.in_ok-supply.ensures name)

@@ -3,4 +3,4 @@ use Rattle.world.specs.State.{Repeated}
 use Rattle.world.proofs.state.World.repeat.Given as goal
 
 abbrev pub invariant-calls : goal.invariant-calls
-invariant-calls l = (l.done ≤ l._turn) × Repeated l.initial.self l.call l._turn l.done l.last l.self
+invariant-calls l = (l.done ≤ l.counter) × Repeated l.initial.self l.call l.counter l.done l.last l.self

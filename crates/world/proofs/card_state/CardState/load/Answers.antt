@@ -1,6 +1,6 @@
 use Rattle.std.proofs.Common.{◌∙◌}
 use Rattle.world.proofs.Loadings.{load-done, load-ended, load-refused}
-use Rattle.world.proofs.card_state.CardState.load_in.Goals as goal
+use Rattle.world.proofs.card_state.CardState.load.Goals as goal
 
 pub returns-in-Ok : goal.returns-in-Ok
 returns-in-Ok g c =
