@@ -102,7 +102,7 @@ fn sub<S: ParamSet>(x: u32, y: u32) -> u32
     reduce_once::<S>(x + (S::modulus() - y))
 }
 
-// Adds the polynomial x to acc.
+// Adds the polynomial x to acc. Here and below a loop that writes one slice and reads another goes by `enumerate`: after a `zip` over `iter_mut` a proof knows nothing of what was written.
 pub fn add_assign<S: ParamSet>(acc: &mut [u32], x: Poly<'_, S>)
     requires { Proper S.params.n S.params.p acc.old }
     ensures value { acc.new ≡ plus S.params.p acc.old x.entry.words.now }
