@@ -82,7 +82,7 @@ pub fn permute(a: &mut [u64; 25])
     ensures permuted { a.new ≡ keccak_f a.old }
     ensures tables { TablesFollow }
 {
-    for i in 0..24usize {
-        *a = one_round(a, ROUND_CONSTANTS[i]);
+    for &constant in &ROUND_CONSTANTS {
+        *a = one_round(a, constant);
     }
 }

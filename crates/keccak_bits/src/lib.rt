@@ -3,8 +3,6 @@
 
 ghost use Rattle.keccak_bits.specs.Bits.{StepsFollow};
 
-pub fn steps_follow() -> u8
+pub fn steps_follow()
     ensures { StepsFollow }
-{
-    0
-}
+{}

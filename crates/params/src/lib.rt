@@ -1,7 +1,7 @@
 // Parameter sets. Code above is generic over ParamSet and names no set.
 #![tactic(auto)]
 
-ghost use Rattle.std.specs.Prelude.{◌≡◌};
+ghost use Rattle.std.specs.Prelude.{◌≡◌, ℕ, refl};
 ghost use Rattle.params.specs.Params.{Params, Sound, reach, set_s, set_i};
 ghost use Rattle.params.specs.Sets.{sound_s, sound_i};
 
@@ -17,24 +17,52 @@ pub trait ParamSet {
 
     const NUMBER: u8;
 
+    ghost N: { ℕ };
+
+    ghost P: { ℕ };
+
+    ghost K: { ℕ };
+
+    ghost ALPHA: { ℕ };
+
+    ghost NUMBER: { ℕ };
+
     ghost params: { Params };
 
     ghost sound: { Sound params };
 
+    // The constants are the set's numbers.
+    ghost numbers: { params ≡ record { n = N; p = P; k = K; alpha = ALPHA; number = NUMBER } };
+
     fn degree() -> usize
-        ensures { result ≡ params.n };
+        ensures { result ≡ params.n }
+    {
+        Self::N
+    }
 
     fn modulus() -> u32
-        ensures { result ≡ params.p };
+        ensures { result ≡ params.p }
+    {
+        Self::P
+    }
 
     fn nonce_bound() -> u32
-        ensures { result ≡ params.k };
+        ensures { result ≡ params.k }
+    {
+        Self::K
+    }
 
     fn weight() -> u32
-        ensures { result ≡ params.alpha };
+        ensures { result ≡ params.alpha }
+    {
+        Self::ALPHA
+    }
 
     fn set_number() -> u8
-        ensures { result ≡ params.number };
+        ensures { result ≡ params.number }
+    {
+        Self::NUMBER
+    }
 
     // How far from 0 a coefficient of a signature may lie.
     fn reach() -> u32
@@ -58,29 +86,21 @@ impl ParamSet for SetS {
 
     const NUMBER: u8 = 0;
 
+    ghost N = { set_s.n };
+
+    ghost P = { set_s.p };
+
+    ghost K = { set_s.k };
+
+    ghost ALPHA = { set_s.alpha };
+
+    ghost NUMBER = { set_s.number };
+
     ghost params = { set_s };
 
     ghost sound = { sound_s };
 
-    fn degree() -> usize {
-        Self::N
-    }
-
-    fn modulus() -> u32 {
-        Self::P
-    }
-
-    fn nonce_bound() -> u32 {
-        Self::K
-    }
-
-    fn weight() -> u32 {
-        Self::ALPHA
-    }
-
-    fn set_number() -> u8 {
-        Self::NUMBER
-    }
+    ghost numbers = { refl };
 }
 
 // The set that cards in the field use.
@@ -97,27 +117,19 @@ impl ParamSet for SetI {
 
     const NUMBER: u8 = 1;
 
+    ghost N = { set_i.n };
+
+    ghost P = { set_i.p };
+
+    ghost K = { set_i.k };
+
+    ghost ALPHA = { set_i.alpha };
+
+    ghost NUMBER = { set_i.number };
+
     ghost params = { set_i };
 
     ghost sound = { sound_i };
 
-    fn degree() -> usize {
-        Self::N
-    }
-
-    fn modulus() -> u32 {
-        Self::P
-    }
-
-    fn nonce_bound() -> u32 {
-        Self::K
-    }
-
-    fn weight() -> u32 {
-        Self::ALPHA
-    }
-
-    fn set_number() -> u8 {
-        Self::NUMBER
-    }
+    ghost numbers = { refl };
 }

@@ -1,8 +1,18 @@
 -- The first place at which a test holds: the steps of a loop, and the law.
-use Rattle.std.proofs.Common.{◌≡◌, ℕ, zero, suc, ◌+◌, ◌<◌, ◌≤◌, Bool, true, false, List, [], ◌∷◌, ◌++◌, length, get_or, drop, Some, None, sym, refl, ap, ◌∙◌, subst, ⊎_elim, arith}
+use Rattle.std.proofs.Common.{◌≡◌, ℕ, zero, suc, ◌+◌, ◌<◌, ◌≤◌, Bool, true, false, cond, List, [], ◌∷◌, ◌++◌, length, get_or, drop, Some, None, sym, refl, ap, ◌∙◌, subst, ⊎_elim, arith}
 use Rattle.std.proofs.lemmas.List.{at_drop_more, at_drop_all, append-nil, append_assoc, length-append, get_or_append_left, get_or_at}
 use Rattle.std.proofs.lemmas.Bool.{cond_both, cond-true, cond-false, cases_lt}
+use Rattle.std.proofs.lemmas.Iterator.Adapters.{position_from-zero}
+use Rattle.std.specs.List.{position, position_from}
 use Rattle.search.specs.First.{first_from, first_at, First}
+
+-- what `position` answers
+position_from-first : {A : Type 0} (test : A → Bool) (i : ℕ) (xs : List A) → position_from test i xs ≡ first_from test i xs
+position_from-first test i [] = refl
+position_from-first test i (x ∷ xs) = ap (cond (test x) (Some i)) (position_from-first test (i + 1) xs)
+
+pub position-first : {A : Type 0} (test : A → Bool) (xs : List A) → position test xs ≡ first_at test xs
+position-first test xs = position_from-zero test xs ∙ position_from-first test 0 xs
 
 module _ {A : Type 0} (d : A) (test : A → Bool) where
   -- a loop over the places: the test holds at i, it fails at i, no place is left

@@ -2,23 +2,12 @@
 #![tactic(auto)]
 
 ghost use Rattle.search.specs.First.{First, first_at};
-ghost use Rattle.std.specs.Prelude.{◌≡◌, leb, nat_le};
-
-fn at_least(word: u32, limit: u32) -> bool
-    ensures { result ≡ nat_le limit word }
-{
-    word >= limit
-}
+ghost use Rattle.std.specs.Prelude.{◌≡◌, leb};
 
 // The lowest index of a word that is `limit` or more.
 pub fn first_at_least(words: &[u32], limit: u32) -> Option<usize>
     ensures value { result ≡ first_at (leb limit) words.now }
     ensures first { First 0 (leb limit) words.now result }
 {
-    'words: for i in 0..words.len() {
-        if at_least(words[i], limit) {
-            return Some(i);
-        }
-    }
-    None
+    words.iter().position(|word| *word >= limit)
 }

@@ -13,6 +13,13 @@ pub struct Metered<'a, S: Source> {
 }
 
 impl<'a, S: Source> Metered<'a, S> {
+    /// A meter on the source that is lent, from 0 on.
+    pub fn new(src: &'a mut S) -> Metered<'a, S>
+        ensures { result ≡ record { src = src.entry; count = 0 } }
+    {
+        Metered { src, count: 0 }
+    }
+
     /// How many words were drawn, if the count began at 0.
     pub fn count(&self) -> u64
         ensures { result ≡ self.now.count }

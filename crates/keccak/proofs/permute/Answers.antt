@@ -1,4 +1,4 @@
-use Rattle.std.proofs.Common.{◌≡◌, ℕ, ◌+◌, ◌<◌, ◌≤◌, List, length, get_or, drop, sym, refl, ap, ◌∙◌, arith}
+use Rattle.std.proofs.Common.{◌≡◌, ℕ, ◌+◌, ◌<◌, ◌≤◌, List, length, get_or, drop, sym, ap, ◌∙◌, arith}
 use Rattle.std.proofs.lemmas.List.{at_drop_more, at_drop_all}
 use Rattle.keccak.specs.Keccak.{round, rounds, round_constants, keccak_f}
 use Rattle.keccak.proofs.permute.Goals as goal
@@ -12,16 +12,15 @@ all_done : (rcs : List ℕ) (i : ℕ) (a : List ℕ) → length rcs ≤ i → ro
 unfolding rounds
 all_done rcs i a h = at_drop_all (λ rs. rounds rs a) rcs i h
 
-pub loop-i-init : goal.loop-i-init
-loop-i-init c = refl
+pub loop-constant-preserved : goal.loop-constant-preserved
+loop-constant-preserved c =
+    let i : ℕ = c.loop-constant.constant-index in
+    let more : i < 24 = omega arith in
+    one_more round_constants i c.loop-constant.a c.one_round.result more c.one_round.ensures ∙ c.loop-constant.invariant
 
-pub loop-i-preserved : goal.loop-i-preserved
-loop-i-preserved c =
-    let more : c.loop-i.i < 24 = omega arith in
-    one_more round_constants c.loop-i.i c.loop-i.a c.one_round.result more c.one_round.ensures ∙ c.loop-i.invariant
-
-pub returns : goal.returns
+pub returns-clause-permuted : goal.returns-clause-permuted
 unfolding keccak_f
-returns c =
-    let all : 24 ≤ c.loop-i.i = omega arith in
-    record { permuted = sym (all_done round_constants c.loop-i.i c.loop-i.a all) ∙ c.loop-i.invariant; tables = (refl, refl) }
+returns-clause-permuted c =
+    let i : ℕ = c.loop-constant.constant-index in
+    let all : 24 ≤ i = omega arith in
+    sym (all_done round_constants i c.loop-constant.a all) ∙ c.loop-constant.invariant
