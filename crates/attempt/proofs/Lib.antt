@@ -1,3 +1,3 @@
 mod Finishing
 mod Closing
-mod Failing
+pub mod Mapping

@@ -1,5 +1,5 @@
 -- What a try of a candidate tells of an attempt, and the coefficients that an area holds so far.
-use Rattle.std.proofs.Common.{◌≡◌, ℕ, ◌+◌, ◌*◌, ◌<◌, ◌≤◌, ◌≢◌, List, [], ◌∷◌, ◌++◌, length, get_or, take, Some, None, Err, Option, sym, refl, ap, ◌∙◌, subst, arith, below_more}
+use Rattle.std.proofs.Common.{◌≡◌, ℕ, ◌+◌, ◌*◌, ◌<◌, ◌≤◌, ◌≢◌, List, [], ◌∷◌, ◌++◌, length, get_or, take, Some, None, Err, sym, refl, ap, ◌∙◌, subst, arith, below_more}
 use Rattle.std.proofs.lemmas.List.{get_or_append_left, get_or_push, length_push}
 use Rattle.params.specs.Params.{Params}
 use Rattle.refusal.specs.declared.fault.Coefficient.{Coefficient}
@@ -35,20 +35,19 @@ values_more s m i v area area' is others =
     get_or_append_left xs (v ∷ []) 0 k (omega arith) ∙ values-at s m i area k h ∙ ap (recombine (residue_rule s.p)) (sym (others k ne)))
     (get_or_push xs v 0 i l ∙ is))
 
-module _ (s : Params) (m b l : ℕ) (ws : List ℕ) (o : Option (List ℕ)) (eb : b ≡ bits s) (el : l ≡ limit s) (j : Judged l (candidate_of b m ws) o) where
+module _ (s : Params) (m b l : ℕ) (ws : List ℕ) (eb : b ≡ bits s) (el : l ≡ limit s) where
   candidate-is : candidate_of b m ws ≡ candidate s (take m ws)
   unfolding candidate
   candidate-is = ap (λ (b : ℕ). candidate_of b m ws) eb
 
-  pub judged-none : o ≡ None → limit s ≤ candidate s (take m ws)
-  judged-none e = let k : l ≤ candidate_of b m ws = subst (Judged l (candidate_of b m ws)) e j in let c = candidate-is in omega arith
+  pub judged-none : Judged l (candidate_of b m ws) None → limit s ≤ candidate s (take m ws)
+  judged-none j = let k : l ≤ candidate_of b m ws = j in let c = candidate-is in omega arith
 
-  pub judged-some : (x : List ℕ) → o ≡ Some x → (candidate s (take m ws) < limit s) × (word_of x ≡ candidate s (take m ws))
-  judged-some x e =
-      let k : (candidate_of b m ws < l) × (word_of x ≡ candidate_of b m ws) = subst (Judged l (candidate_of b m ws)) e j in
+  pub judged-some : (x : List ℕ) → Judged l (candidate_of b m ws) (Some x) → (candidate s (take m ws) < limit s) × (word_of x ≡ candidate s (take m ws))
+  judged-some x j =
+      let h : candidate_of b m ws < l = j.0 in
       let c = candidate-is in
-      let h = k.0 in
-      (omega arith, k.1 ∙ c)
+      (omega arith, j.1 ∙ c)
 
 -- a source ends in a candidate's turn
 pub tried_stops : (s : Params) (m b l : ℕ) (pos : 0 < m) (u : Subject) (y : List ℕ) (e : Ended Mark) (q : Coefficient) (n n₁ n₂ f f₁ f₂ : Flow) → length y < 2 * s.n → q ≡ at s (length y) → Drawing s m u y n n₁ f f₁ → TriedBy m b l (Err e) n₁ n₂ f₁ f₂ → Stops s m u [] [] (ended_by e (Candidate q)) n n₂ f f₂

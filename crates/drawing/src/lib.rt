@@ -38,13 +38,7 @@ pub fn candidate_bits<S: ParamSet>() -> u32
     ensures least { LeastBits (limit S.params) result }
     ensures few { result ≤ 24 }
 {
-    let limit = candidate_limit::<S>();
-    'bits: for w in 0..24u32 {
-        if limit < 1 << w {
-            return w;
-        }
-    }
-    24
+    u32::BITS - candidate_limit::<S>().leading_zeros()
 }
 
 // The place of the i-th coefficient of y1 and y2.
@@ -95,25 +89,20 @@ pub fn draw<const M: usize, S: ParamSet, N: Source, W: Source>(
             let at = at::<S>(i);
             let x: Shares<M> = 'candidates: loop {
                 match candidate(bits, limit, nonces, masks) {
-                    Ok(found) => match found {
-                        Some(x) => break 'candidates x,
-                        None => {}
-                    },
+                    Ok(Some(x)) => break 'candidates x,
+                    Ok(None) => {}
                     Err(ended) => {
-                        break 'draw Err(Halt {
-                            ended,
-                            step: Step::Candidate(at),
-                        });
+                        let step = Step::Candidate(at);
+                        break 'draw Err(Halt { ended, step });
                     }
                 }
             };
             match convert::<M, S, W>(x, masks) {
                 Ok(shares) => scatter(shares, y, n, i),
                 Err(mark) => {
-                    break 'draw Err(Halt {
-                        ended: Ended::Masks(mark),
-                        step: Step::Conversion(at),
-                    });
+                    let ended = Ended::Masks(mark);
+                    let step = Step::Conversion(at);
+                    break 'draw Err(Halt { ended, step });
                 }
             }
         }

@@ -15,7 +15,8 @@ use Rattle.drawing.proofs.Resuming.{wanting}
 use Rattle.attempt.specs.Attempt.{Passed, Rejected}
 use Rattle.attempt.specs.Stages.{outcome_of, attempt_of}
 use Rattle.attempt.specs.Stages as stages
-use Rattle.attempt.specs.declared.stopped.Stopped.{Stopped}
+use Rattle.refusal.specs.declared.fault.Fault.{Fault}
+use Rattle.steps.specs.declared.Ended.{Ended}
 use Rattle.signing.specs.declared.failure.Failure.TheVariants.{Halted, TriesFailed}
 use Rattle.signing.specs.Signing.{Follows, plain_run, supply_of}
 
@@ -94,7 +95,7 @@ module _ (s : Params) (m : ℕ) (pos : 0 < m) (some : 0 < s.n) (u : Subject) (tr
           seen = stopped-seen o n₂ f₂ q;
         }
 
-    pub ends-halted : (t : Stopped) (bytes bytes' : List ℕ) (n₂ f₂ : Flow) → bytes' ≡ bytes → stages.Halted s m u number t n₁ n₂ f₁ f₂ → Follows s m tries (Err (Halted t)) bytes bytes' n n₂ f f₂ (plain_run s m u tries n f)
+    pub ends-halted : (t : Ended Fault) (bytes bytes' : List ℕ) (n₂ f₂ : Flow) → bytes' ≡ bytes → stages.Halted s m u number t n₁ n₂ f₁ f₂ → Follows s m tries (Err (Halted t)) bytes bytes' n n₂ f f₂ (plain_run s m u tries n f)
     ends-halted t bytes bytes' n₂ f₂ same h =
         let o = h.outcome in
         let q = h.stops in

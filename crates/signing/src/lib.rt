@@ -32,8 +32,7 @@ pub fn sign_in<const M: usize, S: ParamSet, P: Multiply<S>, N: Source, W: Source
     ensures { Follows S.params M tries result «record».old «record».new (N.flow nonces.old) (N.flow nonces.new) (W.flow masks.old) (W.flow masks.new) (plain_run S.params M (subject_of S.params M subject.entry.a.words.now subject.entry.key.now subject.entry.digest.now subject.entry.counter) tries (N.flow nonces.old) (W.flow masks.old)) }
 {
     'attempts: for number in 1..=tries {
-        let passed =
-            attempt::<M, S, P, N, W>(number, subject, work, record, nonces, masks)?;
+        let passed = attempt::<M, S, P, N, W>(number, subject, work, record, nonces, masks)?;
         if passed {
             return Ok(number);
         }

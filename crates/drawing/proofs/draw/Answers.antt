@@ -28,8 +28,8 @@ candidates-preserved g c =
     let long = values-long s g.row.M i c.coefficients.y in
     let end = c.coefficients-i-end.ensures in
     let wants : length (values s g.row.M i c.coefficients.y) < 2 * s.n = omega (arith, c.coefficients-test.true) in
-    let d = c.in-Ok.ensures.by in
-    let above = judged-none s g.row.M _ _ (g.N.Source.flow c.candidates.nonces).words c.in-Ok.found c.candidate_bits-bits.ensures.is c.candidate_limit-limit.ensures d.2 c.in-None.is in
+    let d = (rw c.in-Ok-None.field-0-is at c.in-Ok-None.ensures).by in
+    let above = judged-none s g.row.M _ _ (g.N.Source.flow c.candidates.nonces).words c.candidate_bits-bits.ensures.is c.candidate_limit-limit.ensures d.2 in
     λ u n f h. drawing-refused s g.row.M c.requires.some u wants (c.candidates.invariant u n f h) d.0 d.1 above
 
 pub scatter-requires : goal.scatter-requires
@@ -51,12 +51,12 @@ coefficients-preserved g c =
     let long = values-long s g.row.M i y in
     let end = c.coefficients-i-end.ensures in
     let wants : length (values s g.row.M i y) < 2 * s.n = omega (arith, c.coefficients-test.true) in
-    let d = c.in-Ok.ensures.by in
+    let d = (rw c.in-Ok-Some.field-0-is at c.in-Ok-Some.ensures).by in
     let ws = (g.N.Source.flow c.candidates.nonces).words in
-    let x = judged-some s g.row.M _ _ ws c.in-Ok.found c.candidate_bits-bits.ensures.is c.candidate_limit-limit.ensures d.2 c.in-Some.x c.in-Some.is in
-    let v = c.in-Ok-convert.ensures.by in
+    let x = judged-some s g.row.M _ _ ws c.candidate_bits-bits.ensures.is c.candidate_limit-limit.ensures c.in-Ok-Some.x d.2 in
+    let v = c.in-Ok.ensures.by in
     let p = residue_rule s.p in
-    let written : shares_of s.n g.row.M y' i ≡ c.in-Ok-convert.shares = ap (λ (n : ℕ). shares_of n g.row.M y' i) (sym c.degree-n.ensures) ∙ c.scatter.ensures.written in
+    let written : shares_of s.n g.row.M y' i ≡ c.in-Ok.shares = ap (λ (n : ℕ). shares_of n g.row.M y' i) (sym c.degree-n.ensures) ∙ c.scatter.ensures.written in
     let others : (k : ℕ) → k ≢ i → shares_of s.n g.row.M y' k ≡ shares_of s.n g.row.M y k = λ k ne. subst (λ (n : ℕ). shares_of n g.row.M y' k ≡ shares_of n g.row.M y k) c.degree-n.ensures (c.scatter.ensures.others k ne) in
     let is : coefficient s (candidate s (take g.row.M ws)) ≡ recombine p (shares_of s.n g.row.M y' i) = sym (ap (recombine p) written ∙ v.1.1 ∙ ap (coefficient s) x.1) in (
       λ u. subst (λ (t : List ℕ). Drawing s g.row.M u t (g.N.Source.flow c.args.nonces.now) (g.N.Source.flow c.candidate.new.nonces) (g.W.Source.flow c.args.masks.now) (g.W.Source.flow c.convert.new.masks))
@@ -88,9 +88,9 @@ returns-in-Err-convert g c =
     let long = values-long s g.row.M i c.coefficients.y in
     let end = c.coefficients-i-end.ensures in
     let wants : length y < 2 * s.n = omega (arith, c.coefficients-test.true) in
-    let d = c.in-Ok.ensures.by in
+    let d = (rw c.in-Ok-Some.field-0-is at c.in-Ok-Some.ensures).by in
     let ws = (g.N.Source.flow c.candidates.nonces).words in
-    let x = judged-some s g.row.M _ _ ws c.in-Ok.found c.candidate_bits-bits.ensures.is c.candidate_limit-limit.ensures d.2 c.in-Some.x c.in-Some.is in
+    let x = judged-some s g.row.M _ _ ws c.candidate_bits-bits.ensures.is c.candidate_limit-limit.ensures c.in-Ok-Some.x d.2 in
     let n₀ = g.N.Source.flow c.args.nonces.now in
     let n₂ = g.N.Source.flow c.candidate.new.nonces in
     let f₀ = g.W.Source.flow c.args.masks.now in

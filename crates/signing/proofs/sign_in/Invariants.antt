@@ -1,4 +1,4 @@
-use Rattle.std.proofs.Common.{◌≡◌, ◌-◌}
+use Rattle.std.proofs.Common.{◌≡◌}
 use Rattle.attempt.specs.Attempt.{subject_of}
 use Rattle.signing.proofs.Going.{Going}
 use Rattle.signing.proofs.sign_in.Given as goal
@@ -6,8 +6,6 @@ use Rattle.signing.proofs.sign_in.Given as goal
 abbrev pub invariant-attempts : goal.invariant-attempts
 invariant-attempts g l =
     let s = g.S.ParamSet.params in
+    let u = l.subject in
     (l.record ≡ l.initial.record)
-    × Going s g.row.M (subject_of s g.row.M l.a l.key l.digest l.counter) l.tries (g.N.Source.flow l.initial.nonces) (g.W.Source.flow l.initial.masks) l.number (g.N.Source.flow l.nonces) (g.W.Source.flow l.masks)
-
-abbrev pub decreases-attempts : goal.decreases-attempts
-decreases-attempts g l = l.tries - l.number
+    × Going s g.row.M (subject_of s g.row.M u.a.words.now u.key.now u.digest.now u.counter) l.tries (g.N.Source.flow l.initial.nonces) (g.W.Source.flow l.initial.masks) l.number (g.N.Source.flow l.nonces) (g.W.Source.flow l.masks)
