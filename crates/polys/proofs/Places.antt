@@ -22,14 +22,6 @@ module _ (n m : ℕ) (some : 0 < n) where
       let t = mul-add-lt (c / n * m + i) n (c % n) ((c / n + 1) * m) row (mod_below c n some) in
       omega arith
 
-  -- the numbers on the way to a place
-  pub place-steps : (c i : ℕ) → i < m → (c / n * m + i < (c / n + 1) * m * n) × ((c / n * m + i) * n < (c / n + 1) * m * n)
-  unfolding place
-  place-steps c i l =
-      let t = mul-le ((c / n + 1) * m) 1 ((c / n + 1) * m) n (omega arith) some in
-      let e = place_inside c i l in
-      (omega arith, omega arith)
-
   -- an area of h polynomials has the polynomial of each of its coefficients
   pub polynomial-inside : (h c : ℕ) (area : List ℕ) → c < h * n → length area ≡ h * m * n → (c / n + 1) * m * n ≤ length area
   polynomial-inside h c area l e =
