@@ -1,6 +1,9 @@
 // The shares of one coefficient, in an area and as an array.
 ghost use Rattle.std.specs.Prelude.{◌≡◌, ℕ, ◌+◌, ◌*◌, ◌/◌, ◌^◌, ◌<◌, ◌≤◌, ◌≢◌, length};
 ghost use Rattle.polys.specs.Area.{place, shares_of};
+ghost use Rattle.ring.specs.Ring.{Residues};
+ghost use Rattle.shares.specs.Groups.{residue_rule};
+ghost use Rattle.shares.specs.Rule.{Within};
 
 use params::ParamSet;
 use shares::Shares;
@@ -34,6 +37,17 @@ pub fn gather<const M: usize>(area: &[u32], n: usize, c: usize) -> Shares<M>
         *share = area[place(n, M, c, i)];
     }
     shares
+}
+
+/// The shares of coefficient c of an area of residues.
+pub fn coefficient<const M: usize, S: ParamSet>(area: &[u32], c: usize) -> Shares<M>
+    requires most { M ≤ 8 }
+    requires inside { (c / S.params.n + 1) * M * S.params.n ≤ length area.now }
+    requires residues { Residues S.params.p area.now }
+    ensures shares { result ≡ shares_of S.params.n M area.now c }
+    ensures within { Within (residue_rule S.params.p) result }
+{
+    gather::<M>(area, S::degree(), c)
 }
 
 /// Writes the shares of coefficient c.

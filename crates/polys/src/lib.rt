@@ -6,7 +6,7 @@ pub mod linear;
 pub mod opening;
 pub mod shared;
 
-pub use column::{coefficients, gather, scatter};
+pub use column::{coefficient, coefficients, gather, scatter};
 pub use linear::{commit_rows, multiply_add, respond_rows};
-pub use opening::open_poly;
+pub use opening::{open_coefficient, open_poly};
 pub use shared::Shared;

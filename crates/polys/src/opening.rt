@@ -7,10 +7,28 @@ ghost use Rattle.shares.specs.Refresh.{pairs};
 ghost use Rattle.shares.specs.Rule.{recombine};
 ghost use Rattle.words.specs.Spending.{Spends};
 
+use crate::column::coefficient;
 use crate::shared::Shared;
 use params::ParamSet;
 use shares::open;
 use words::{Mark, Source};
+
+/// Opens coefficient c of an area of residues.
+pub fn open_coefficient<const M: usize, S: ParamSet, W: Source>(
+    area: &[u32],
+    c: usize,
+    masks: &mut W,
+) -> Result<u32, Mark>
+    requires some { 0 < M }
+    requires most { M ≤ 8 }
+    requires inside { (c / S.params.n + 1) * M * S.params.n ≤ length area.now }
+    requires residues { Residues S.params.p area.now }
+    ensures { Spends ((residue_rule S.params.p).cost * pairs M) result (W.flow masks.old) (W.flow masks.new) (λ v. v ≡ recombine (residue_rule S.params.p) (shares_of S.params.n M area.now c)) }
+{
+    let ring = shares::Residues::of::<S>();
+    let shares = coefficient::<M, S>(area, c);
+    open(&ring, shares, masks)
+}
 
 impl<'a, const K: usize, const M: usize, S: ParamSet> Shared<'a, K, M, S> {
     /// Opens coefficient c, counted through the polynomials.
@@ -18,9 +36,7 @@ impl<'a, const K: usize, const M: usize, S: ParamSet> Shared<'a, K, M, S> {
         requires inside { c < K * S.params.n }
         ensures { Spends ((residue_rule S.params.p).cost * pairs M) result (W.flow masks.old) (W.flow masks.new) (λ v. v ≡ recombine (residue_rule S.params.p) (shares_of S.params.n M self.entry.area.now c)) }
     {
-        let ring = shares::Residues::of::<S>();
-        let shares = self.coefficient(c);
-        open(&ring, shares, masks)
+        open_coefficient::<M, S, W>(self.area, c, masks)
     }
 }
 

@@ -5,7 +5,7 @@ ghost use Rattle.ring.specs.Ring.{Residues};
 ghost use Rattle.shares.specs.Groups.{residue_rule};
 ghost use Rattle.shares.specs.Rule.{Within};
 
-use crate::column::gather;
+use crate::column::coefficient;
 use params::ParamSet;
 use shares::Shares;
 use std::alloc::AllocError;
@@ -52,6 +52,6 @@ impl<'a, const K: usize, const M: usize, S: ParamSet> Shared<'a, K, M, S> {
         ensures shares { result ≡ shares_of S.params.n M self.entry.area.now c }
         ensures within { Within (residue_rule S.params.p) result }
     {
-        gather::<M>(self.area, S::degree(), c)
+        coefficient::<M, S>(self.area, c)
     }
 }
