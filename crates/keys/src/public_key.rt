@@ -31,8 +31,9 @@ pub fn publish<S: ParamSet, M: Multiply<S>>(secret: &[i8], public: &mut [u32])
     let residues = &mut secret_room[0..2 * n];
     let t = &mut t_room[0..n];
     read_secret::<S>(residues, secret);
-    let (s1, s2) = residues.split_at(n);
-    let a = &public[0..n];
-    multiply_add::<S, M>(t, Poly::new(a), Poly::new(s1), Poly::new(s2));
+    let (front, back) = residues.split_at(n);
+    let s1 = Poly::new(front);
+    let s2 = Poly::new(back);
+    multiply_add::<S, M>(t, Poly::new(&public[0..n]), s1, s2);
     public[n..2 * n].copy_from_slice(t);
 }
