@@ -32,8 +32,8 @@ pub fn publish<S: ParamSet, M: Multiply<S>>(secret: &[i8], public: &mut [u32])
     let t = &mut t_room[0..n];
     read_secret::<S>(residues, secret);
     let (front, back) = residues.split_at(n);
-    let s1 = Poly::new(front);
-    let s2 = Poly::new(back);
+    let s1 = Poly::<S>::new(front);
+    let s2 = Poly::<S>::new(back);
     multiply_add::<S, M>(t, Poly::new(&public[0..n]), s1, s2);
     public[n..2 * n].copy_from_slice(t);
 }
