@@ -8,7 +8,7 @@ use params::ParamSet;
 use polys::multiply_add;
 use ring::{Multiply, Poly};
 
-// The residues of the secret.
+// The residues of the secret. By `enumerate`, since after a `zip` over `iter_mut` a proof knows nothing of what was written.
 fn read_secret<S: ParamSet>(out: &mut [u32], secret: &[i8])
     requires { length out.old ≡ length secret.now }
     ensures { out.new ≡ map (residue S.params.p) secret.now }
