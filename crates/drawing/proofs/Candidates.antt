@@ -9,6 +9,7 @@ use Rattle.shares.specs.Groups.{residue_rule, word_of}
 use Rattle.polys.specs.Area.{shares_of, values}
 use Rattle.polys.proofs.Places.{values-are, values-at, values-long}
 use Rattle.words.specs.Flow.{Flow}
+use Rattle.words.specs.declared.Mark.{Mark}
 use Rattle.steps.specs.declared.Ended.{Ended}
 use Rattle.steps.specs.declared.Ended.TheVariants.{Nonces, Masks}
 use Rattle.steps.specs.Candidate.{candidate_of, Judged, TriedBy}
@@ -50,7 +51,7 @@ module _ (s : Params) (m b l : ℕ) (ws : List ℕ) (o : Option (List ℕ)) (eb 
       (omega arith, k.1 ∙ c)
 
 -- a source ends in a candidate's turn
-pub tried_stops : (s : Params) (m b l : ℕ) (pos : 0 < m) (u : Subject) (y : List ℕ) (e : Ended) (q : Coefficient) (n n₁ n₂ f f₁ f₂ : Flow) → length y < 2 * s.n → q ≡ at s (length y) → Drawing s m u y n n₁ f f₁ → TriedBy m b l (Err e) n₁ n₂ f₁ f₂ → Stops s m u [] [] (ended_by e (Candidate q)) n n₂ f f₂
+pub tried_stops : (s : Params) (m b l : ℕ) (pos : 0 < m) (u : Subject) (y : List ℕ) (e : Ended Mark) (q : Coefficient) (n n₁ n₂ f f₁ f₂ : Flow) → length y < 2 * s.n → q ≡ at s (length y) → Drawing s m u y n n₁ f f₁ → TriedBy m b l (Err e) n₁ n₂ f₁ f₂ → Stops s m u [] [] (ended_by e (Candidate q)) n n₂ f f₂
 tried_stops s m b l pos u y (Nonces e) q n n₁ n₂ f f₁ f₂ h is d t =
     subst (λ (q : Coefficient). Stops s m u [] [] (ended_by (Nonces e) (Candidate q)) n n₂ f f₂) (sym is)
     (subst (λ (f₂ : Flow). Stops s m u [] [] (ended_by (Nonces e) (Candidate (at s (length y)))) n n₂ f f₂) (sym t.1) (drawing-stops s m pos u d (nonces-short s m pos u d.words y e n₁ n₂ f₁ h t.0)))

@@ -2,6 +2,7 @@
 use Rattle.std.specs.Prelude.{ℕ, ◌*◌, List, [], Ok, Err, Result}
 use Rattle.params.specs.Params.{Params}
 use Rattle.words.specs.Flow.{Flow}
+use Rattle.words.specs.declared.Mark.{Mark}
 use Rattle.words.specs.Spending.{Spent}
 use Rattle.refusal.specs.declared.fault.Step.{Step}
 use Rattle.steps.specs.declared.Ended.{Ended}
@@ -20,7 +21,7 @@ pub record Drawing (s : Params) (m : ℕ) (u : Subject) (y : List ℕ) (n n' f f
   pub leads : Leads s m u [] [] n f seen spent words y n' f'
 
 -- how a signing ends in which a source ends in attempt a
-abbrev pub ended_by : Ended → Step → ℕ → Outcome
+abbrev pub ended_by : Ended Mark → Step → ℕ → Outcome
 ended_by (Nonces e) step a = nonces_ended (record { mark = e; attempt = a; step = step })
 ended_by (Masks e) step a = masks_ended (record { mark = e; attempt = a; step = step })
 

@@ -9,11 +9,9 @@ pub use call::Call;
 
 /// What a card keeps over every life: a till takes its records by their counters alone, each attempt has nonce words of its own,
 /// cards that differ in their shares alone answer alike, and records are numbered.
-pub fn promises_hold() -> u8
+pub fn promises_hold()
     ensures newer { NewerLaw }
     ensures places { PlacesLaw }
     ensures alike { AlikeLaw }
     ensures numbered { NumbersLaw }
-{
-    0
-}
+{}

@@ -1,17 +1,13 @@
 -- What is done share by share, and keeps exclusive ors, is done to the word.
-use Rattle.std.proofs.Common.{◌≡◌, ℕ, zero, suc, ◌+◌, ◌-◌, ◌*◌, ◌/◌, ◌%◌, ◌^◌, ◌<◌, List, [], ◌∷◌, length, get_or, replicate, sym, refl, ap, ◌∙◌, ap₂, suc-le-suc, add-zero, mod-lt, mod-eq_of_lt, zero-lt-suc, zero-mul, arith, pow_pos}
-use lib.ListN.{length-replicate}
+use Rattle.std.proofs.Common.{◌≡◌, ℕ, zero, suc, ◌+◌, ◌-◌, ◌*◌, ◌/◌, ◌%◌, ◌^◌, ◌<◌, ◌≤◌, List, [], ◌∷◌, length, get_or, replicate, sym, refl, ap, ◌∙◌, ap₂, suc-le-suc, add-zero, mod-lt, mod-eq_of_lt, zero-lt-suc, zero-mul, arith, pow_pos}
 use lib.Bits.{bit_and, bit_xor, xor_assoc, xor_block, xor_mod, xor_shr, xor_lt, and_mask, xor_add_and, xor_zero_r}
 use Rattle.shares.specs.Groups.{word_of}
 use Rattle.linear.specs.Words.{constant, shifted}
 use Rattle.shares.proofs.Boolean.{xor_and, xor_left_comm, digit_ind}
 
--- the first i of m shares are those that f tells
-abbrev pub Filled : ℕ → List ℕ → (ℕ → ℕ) → ℕ → Type 0
-Filled m os f i = (length os ≡ m) × ((k : ℕ) → k < i → get_or os k 0 ≡ f k)
-
-pub filled_none : (m : ℕ) (f : ℕ → ℕ) → Filled m (replicate m 0) f 0
-filled_none m f = (length-replicate m 0, λ k h. absurd (omega arith))
+-- the first i shares are made of those that were there, the others still as they were
+abbrev pub Made : (ℕ → ℕ → Type 0) → List ℕ → List ℕ → ℕ → Type 0
+Made R xs os i = (length os ≡ length xs) × ((k : ℕ) → k < i → R k (get_or os k 0)) × ((k : ℕ) → i ≤ k → get_or os k 0 ≡ get_or xs k 0)
 
 -- f keeps 0 and exclusive ors
 pub record Linear (f : ℕ → ℕ) : Type 0 where

@@ -1,19 +1,31 @@
 // Share by share: operations that need no other share. They keep exclusive ors, so that they act on the word as on each share.
 #![tactic(auto)]
 
-ghost use Rattle.std.specs.Prelude.{◌≡◌, ◌-◌, ◌/◌, ◌%◌, ◌^◌, ◌<◌, bit_xor};
+ghost use Rattle.std.specs.Prelude.{◌≡◌, ℕ, ◌-◌, ◌/◌, ◌%◌, ◌^◌, ◌<◌, bit_xor, slice_index};
 ghost use Rattle.shares.specs.Groups.{word_of};
 ghost use Rattle.linear.specs.Words.{constant, shifted};
 
 use shares::Shares;
 
+/// What `f` makes of each share alone.
+pub fn each<const M: usize, F: Fn(u32) -> u32>(x: Shares<M>, f: F) -> Shares<M>
+    requires { (k : ℕ) → k < M → F.pre f (slice_index x k) }
+    ensures { (k : ℕ) → k < M → F.post f (slice_index x.entry k) (slice_index result k) }
+{
+    let mut out = x;
+    for share in &mut out {
+        *share = f(*share);
+    }
+    out
+}
+
 /// Shares of `x ^ y`.
 pub fn xor<const M: usize>(x: Shares<M>, y: Shares<M>) -> Shares<M>
     ensures { word_of result ≡ bit_xor (word_of x.entry) (word_of y.entry) }
 {
-    let mut out = [0; M];
-    for i in 0..M {
-        out[i] = x[i] ^ y[i];
+    let mut out = x;
+    for (i, share) in out.iter_mut().enumerate() {
+        *share ^= y[i];
     }
     out
 }
@@ -23,33 +35,21 @@ pub fn shift_left<const M: usize>(x: Shares<M>, places: u32) -> Shares<M>
     requires small { places < 32 }
     ensures { word_of result ≡ shifted places (word_of x.entry) }
 {
-    let mut out = [0; M];
-    for i in 0..M {
-        out[i] = x[i] << places;
-    }
-    out
+    each(x, |share| share << places)
 }
 
 /// Shares of the top bit of `x`.
 pub fn top_bit<const M: usize>(x: Shares<M>) -> Shares<M>
     ensures { word_of result ≡ word_of x.entry / 2 ^ 31 }
 {
-    let mut out = [0; M];
-    for i in 0..M {
-        out[i] = x[i] >> 31;
-    }
-    out
+    each(x, |share| share >> 31)
 }
 
 /// Shares of a word that has the top bit of `x` in every place.
 pub fn spread_top_bit<const M: usize>(x: Shares<M>) -> Shares<M>
     ensures { word_of result ≡ (2 ^ 32 - word_of x.entry / 2 ^ 31) % 2 ^ 32 }
 {
-    let mut out = [0; M];
-    for i in 0..M {
-        out[i] = 0u32.wrapping_sub(x[i] >> 31);
-    }
-    out
+    each(x, |share| 0u32.wrapping_sub(share >> 31))
 }
 
 /// Shares of the low `bits` bits of `x`.
@@ -57,12 +57,8 @@ pub fn low_bits<const M: usize>(x: Shares<M>, bits: u32) -> Shares<M>
     requires small { bits < 32 }
     ensures { word_of result ≡ word_of x.entry % 2 ^ bits }
 {
-    let mut out = [0; M];
     let mask = (1u32 << bits) - 1;
-    for i in 0..M {
-        out[i] = x[i] & mask;
-    }
-    out
+    each(x, |share| share & mask)
 }
 
 /// Shares of `!x`: one share changes.

@@ -1,8 +1,7 @@
 -- Residues that stand for integers near 0.
-use Rattle.std.proofs.Common.{◌≡◌, ℕ, zero, suc, ◌-◌, ◌/◌, ◌%◌, ◌<◌, ◌≤◌, true, false, leb, List, [], ◌∷◌, map, ℤ, pos, negsuc, ◌-ℤ◌, nat_abs, refl, ap, ◌∙◌, ap₂, mod-lt, mod-eq_of_lt, arith}
+use Rattle.std.proofs.Common.{◌≡◌, ℕ, zero, suc, ◌-◌, ◌/◌, ◌%◌, ◌<◌, ◌≤◌, leb, List, [], ◌∷◌, map, ℤ, pos, negsuc, ◌-ℤ◌, nat_abs, refl, ap, ◌∙◌, ap₂, mod-lt, mod-eq_of_lt, arith}
 use Rattle.std.proofs.lemmas.Int.{ints}
-use lib.Signed.{lt_z}
-use Rattle.std.proofs.lemmas.Bool.{both_ways, ltb-true, leb-false, le-leb, lt-leb, cond-true, cond-false, cond_both}
+use Rattle.std.proofs.lemmas.Bool.{leb-false, le-leb, lt-leb, cond-true, cond-false, cond_both}
 use Rattle.ring.specs.Ring.{negate, residue, centre, Residues}
 use Rattle.ring.proofs.Modular.{negate_some}
 use Rattle.ring.proofs.Polynomials.{cons, residues_tail}
@@ -33,15 +32,6 @@ centre_residue p (negsuc m) s h =
     ∙ cond-false (leb v ((p - 1) / 2)) (pos v) (pos v -ℤ pos p) (lt-leb v ((p - 1) / 2) (omega arith))
     ∙ above_half p v (omega arith)
     ∙ ap negsuc e
-
--- the residue by an integer's sign and size
-pub residue_negative : (p : ℕ) (z : ℤ) → lt_z z (pos 0) ≡ true → negate p (nat_abs z) ≡ residue p z
-residue_negative p (pos v) e = absurd (omega (arith, ltb-true v 0 e))
-residue_negative p (negsuc v) e = refl
-
-pub residue_natural : (p : ℕ) (z : ℤ) → lt_z z (pos 0) ≡ false → nat_abs z % p ≡ residue p z
-residue_natural p (pos v) e = refl
-residue_natural p (negsuc v) e = absurd (both_ways true e refl)
 
 pub residue_below : (p : ℕ) (z : ℤ) → 0 < p → residue p z < p
 residue_below p (pos v) h = mod-lt v h

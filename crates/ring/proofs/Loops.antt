@@ -1,7 +1,7 @@
 -- The loops over coefficients, place by place, and the long product's.
-use Rattle.std.proofs.Common.{◌≡◌, ℕ, zero, suc, ◌+◌, ◌-◌, ◌*◌, ◌%◌, ◌^◌, ◌<◌, ◌≤◌, List, [], ◌∷◌, ◌++◌, length, get_or, take, drop, set, replicate, sym, refl, ap, ◌∙◌, ap₂, add-zero, add_assoc, zero-add, arith}
+use Rattle.std.proofs.Common.{◌≡◌, ℕ, zero, suc, ◌+◌, ◌-◌, ◌*◌, ◌%◌, ◌^◌, ◌<◌, ◌≤◌, List, [], ◌∷◌, ◌++◌, length, get_or, take, drop, replicate, sym, refl, ap, ◌∙◌, ap₂, add-zero, add_assoc, zero-add, arith}
 use native.Mathlib.Nat.{add-mod-mod, mod-add-mod}
-use Rattle.std.proofs.lemmas.List.{take_more_set, drop_more, drop-set-lt, drop_all, take_all, append-nil, append_assoc, ext_get_or}
+use Rattle.std.proofs.lemmas.List.{ext_get_or}
 use Rattle.std.proofs.lemmas.Nat.{mul-lt}
 use Rattle.std.specs.List.{slice_get}
 use Rattle.std.specs.Option.{unwrap_or}
@@ -21,15 +21,6 @@ zipping_all f xs ys zs i z h d e =
 -- each coefficient goes up one place: what xs comes to once the places from i on are done
 abbrev pub Shifting : List ℕ → ℕ → ℕ → List ℕ
 Shifting xs carry i = take i xs ++ shift_in carry (drop i xs)
-
-pub shifting_more : (xs : List ℕ) (carry i : ℕ) → i < length xs → Shifting (set xs i carry) (get_or xs i 0) (i + 1) ≡ Shifting xs carry i
-shifting_more xs carry i h =
-    ap₂ (λ (s t : List ℕ). s ++ shift_in (get_or xs i 0) t) (take_more_set xs i carry h) (drop-set-lt (i + 1) xs i carry (omega arith))
-    ∙ append_assoc (take i xs) (carry ∷ []) (shift_in (get_or xs i 0) (drop (i + 1) xs))
-    ∙ sym (ap (λ (t : List ℕ). take i xs ++ shift_in carry t) (drop_more xs i 0 h))
-
-pub shifting_all : (xs : List ℕ) (carry i : ℕ) → length xs ≤ i → Shifting xs carry i ≡ xs
-shifting_all xs carry i h = ap₂ (λ (s t : List ℕ). s ++ shift_in carry t) (take_all i xs h) (drop_all i xs h) ∙ append-nil xs
 
 last_from : (x : ℕ) (xs : List ℕ) → unwrap_or (slice_get (x ∷ xs) (length xs)) 0 ≡ last_of x xs
 last_from x [] = refl

@@ -3,8 +3,6 @@
 
 ghost use Rattle.rows.specs.Table.{Table};
 
-pub fn rows_hold() -> u8
+pub fn rows_hold()
     ensures { Table }
-{
-    0
-}
+{}

@@ -22,15 +22,11 @@ impl Shake256 {
     }
 
     // Eight bytes at a lane's start at once.
-    fn absorb_lane(&mut self, bytes: &[u8])
-        requires pos_value { self.old.pos % 8 ≡ 0 }
-        requires bytes_len { length bytes.now ≡ 8 }
+    fn absorb_lane(&mut self, bytes: &[u8; 8])
+        requires { self.old.pos % 8 ≡ 0 }
         ensures { (m : List ℕ) → Absorbing m self.old → Absorbing (m ++ bytes.now) self.new }
     {
-        let lane = u64::from_le_bytes([
-            bytes[0], bytes[1], bytes[2], bytes[3], bytes[4], bytes[5], bytes[6], bytes[7],
-        ]);
-        self.state[self.pos / 8] ^= lane;
+        self.state[self.pos / 8] ^= u64::from_le_bytes(*bytes);
         self.pos = advance(&mut self.state, self.pos, 8);
     }
 
@@ -38,15 +34,18 @@ impl Shake256 {
     pub fn absorb(&mut self, bytes: &[u8])
         ensures { (m : List ℕ) → Absorbing m self.old → Absorbing (m ++ bytes.now) self.new }
     {
-        let mut i = 0;
-        while i < bytes.len() {
-            if self.pos % 8 == 0 && bytes.len() - i >= 8 {
-                self.absorb_lane(&bytes[i..i + 8]);
-                i += 8;
-            } else {
-                self.absorb_byte(bytes[i]);
-                i += 1;
-            }
+        let mut rest = bytes;
+        while let [byte, behind @ ..] = rest {
+            rest = match rest.split_first_chunk() {
+                Some((lane, behind)) if self.pos % 8 == 0 => {
+                    self.absorb_lane(lane);
+                    behind
+                }
+                _ => {
+                    self.absorb_byte(*byte);
+                    behind
+                }
+            };
         }
     }
 

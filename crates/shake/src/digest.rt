@@ -15,8 +15,6 @@ pub fn hash(message: &[u8], out: &mut [u8])
 }
 
 // Known answers hold of the definition.
-pub fn vectors_hold() -> u8
+pub fn vectors_hold()
     ensures { VectorsHold }
-{
-    0
-}
+{}

@@ -11,9 +11,9 @@ use words::{Mark, Source};
 fn share_products<const M: usize>(x: Shares<M>, y: Shares<M>) -> Shares<M>
     ensures { result ≡ products x.entry y.entry }
 {
-    let mut out = [0; M];
-    for i in 0..M {
-        out[i] = x[i] & y[i];
+    let mut out = x;
+    for (i, share) in out.iter_mut().enumerate() {
+        *share &= y[i];
     }
     out
 }
@@ -27,6 +27,7 @@ pub fn sec_and<const M: usize, S: Source>(
     ensures { Spends (pairs M) result (S.flow src.old) (S.flow src.new) (λ z. (z ≡ conjoined M x.entry y.entry (S.flow src.old).words) × (word_of z ≡ bit_and (word_of x.entry) (word_of y.entry))) }
 {
     let mut out = share_products(x, y);
+    // Both shares of a pair are of one array, so the pairs go by index.
     for i in 0..M {
         for j in i + 1..M {
             let r = src.draw()?;

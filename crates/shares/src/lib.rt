@@ -19,7 +19,26 @@ pub use residues::Residues;
 use words::{Mark, Source};
 
 /// One value in `M` shares, each below the group's order.
+// Only functions that read or write a first share ask for `0 < M`; xor, sec_and and others hold for no share too, so a type that carried it would ask more.
 pub type Shares<const M: usize> = [u32; M];
+
+/// A call at a share count from 1 to 8 that is known when the program runs, as `at_share_count!(shares, sign::<_, S>(key))`.
+#[macro_export]
+macro_rules! at_share_count {
+    ($shares:expr, $call:ident::<_ $(, $kind:ty)*>($($argument:expr),* $(,)?)) => {
+        match $shares {
+            1 => $call::<1 $(, $kind)*>($($argument),*),
+            2 => $call::<2 $(, $kind)*>($($argument),*),
+            3 => $call::<3 $(, $kind)*>($($argument),*),
+            4 => $call::<4 $(, $kind)*>($($argument),*),
+            5 => $call::<5 $(, $kind)*>($($argument),*),
+            6 => $call::<6 $(, $kind)*>($($argument),*),
+            7 => $call::<7 $(, $kind)*>($($argument),*),
+            8 => $call::<8 $(, $kind)*>($($argument),*),
+            _ => unreachable(),
+        }
+    };
+}
 
 /// A commutative group on the words below its order.
 pub trait Group {
@@ -51,7 +70,6 @@ fn refresh_pair<const M: usize, G: Group, S: Source>(
     j: usize,
     src: &mut S,
 ) -> Result<(), Mark>
-    requires sized { length shares.old ≡ M }
     requires rising { i < j }
     requires inside { j < M }
     requires within { Within (G.rule g.now) shares.old }
@@ -67,16 +85,15 @@ fn refresh_pair<const M: usize, G: Group, S: Source>(
 }
 
 /// New shares of the same value: a mask to each pair of shares, until the source ends.
-// `sized` holds of every array, but is not known of one that is lent.
 pub fn refresh<const M: usize, G: Group, S: Source>(
     g: &G,
     shares: &mut [u32; M],
     src: &mut S,
 ) -> Result<(), Mark>
-    requires sized { length shares.old ≡ M }
     requires within { Within (G.rule g.now) shares.old }
     ensures { Refreshed (G.rule g.now) M result shares.old shares.new (S.flow src.old) (S.flow src.new) }
 {
+    // Both shares of a pair are of one array, so the pairs go by index.
     for i in 0..M {
         for j in i + 1..M {
             refresh_pair(g, shares, i, j, src)?;

@@ -13,8 +13,8 @@ pub fn recombine<const M: usize, G: Group>(g: &G, shares: Shares<M>) -> u32
     ensures { result ≡ recombine (G.rule g.now) shares.entry }
 {
     let mut value = g.unit();
-    for i in 0..M {
-        value = g.join(value, shares[i]);
+    for share in shares {
+        value = g.join(value, share);
     }
     value
 }

@@ -14,11 +14,11 @@ use linear::low_bits;
 use shares::{Group, Residues, Shares, Words, fresh, open, sec_and};
 use words::{Mark, Source};
 
-/// Which source ended, and its mark.
+/// Which source ended, and what is told of that.
 #[derive(Clone, Copy)]
-pub enum Ended {
-    Nonces(Mark),
-    Masks(Mark),
+pub enum Ended<T> {
+    Nonces(T),
+    Masks(T),
 }
 
 fn draw_shares<const M: usize, S: Source>(src: &mut S) -> Result<Shares<M>, Mark>
@@ -54,20 +54,14 @@ pub fn candidate<const M: usize, N: Source, S: Source>(
     limit: u32,
     nonces: &mut N,
     masks: &mut S,
-) -> Result<Option<Shares<M>>, Ended>
+) -> Result<Option<Shares<M>>, Ended<Mark>>
     requires some { 0 < M }
     requires narrow { bits < 31 }
     requires limited { (0 < limit) × (limit < 2 ^ 31) }
     ensures { Tried M bits limit result (N.flow nonces.old) (N.flow nonces.new) (S.flow masks.old) (S.flow masks.new) }
 {
-    let words = match draw_shares(nonces) {
-        Ok(words) => words,
-        Err(mark) => return Err(Ended::Nonces(mark)),
-    };
-    match judge(low_bits(words, bits), limit, masks) {
-        Ok(x) => Ok(x),
-        Err(mark) => Err(Ended::Masks(mark)),
-    }
+    let words = draw_shares(nonces).map_err(Ended::Nonces)?;
+    judge(low_bits(words, bits), limit, masks).map_err(Ended::Masks)
 }
 
 /// Shares of the pass bit `pass`, cleared unless the coefficient `z` lies within `reach` of 0.

@@ -1,5 +1,4 @@
 pub mod Spendings
 pub mod Meters
-mod Tapes
 pub mod Checks
 mod Streams

@@ -1,16 +1,12 @@
 -- The tape: what it has still to give.
-use Rattle.std.specs.Prelude.{◌^◌, ◌≤◌, length, take, drop}
-use Rattle.std.proofs.Common.{arith, length-take, length-drop}
+use Rattle.std.specs.Prelude.{ℕ, ◌^◌, ◌≤◌, List, length, drop}
+use Rattle.std.proofs.Common.{arith, length-drop}
 use Rattle.words.specs.declared.Mark.TheVariants.{Spent}
-use Rattle.words.specs.declared.tape.Tape.{Tape}
 use Rattle.words.specs.Flow.{Flow, from}
 
--- a tape: the lent words from the next one on, none past the longest that a source may be
-abbrev pub tape_flow : Tape → Flow
-tape_flow t = from (drop t.at (take (2 ^ 40) t.words.now)) Spent
+-- a tape of these words: those from the next one on
+abbrev pub tape_flow : List ℕ → ℕ → Flow
+tape_flow words at = from (drop at words) Spent
 
-pub tape_few : (t : Tape) → length (tape_flow t).words ≤ 2 ^ 40
-tape_few t =
-    let d = length-drop t.at (take (2 ^ 40) t.words.now) in
-    let e = length-take (2 ^ 40) t.words.now in
-    omega arith
+pub tape_few : (words : List ℕ) (at : ℕ) → length words ≤ 2 ^ 40 → length (tape_flow words at).words ≤ 2 ^ 40
+tape_few words at few = let d = length-drop at words in omega arith

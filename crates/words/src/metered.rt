@@ -13,6 +13,14 @@ pub struct Metered<'a, S: Source> {
 }
 
 impl<'a, S: Source> Metered<'a, S> {
+    /// A meter on the source that is lent, from 0 on.
+    pub fn new(src: &'a mut S) -> Metered<'a, S>
+        ensures source { result.src ≡ src.entry }
+        ensures start { result.count ≡ 0 }
+    {
+        Metered { src, count: 0 }
+    }
+
     /// How many words were drawn, if the count began at 0.
     pub fn count(&self) -> u64
         ensures { result ≡ self.now.count }

@@ -1,45 +1,51 @@
-// A list of words that is lent whole.
-ghost use Rattle.std.specs.Prelude.{◌≡◌, ◌^◌, ◌<◌, length};
+// A list of words, lent or owned.
+ghost use Rattle.std.specs.Prelude.{◌≡◌, ◌^◌, ◌<◌, ◌≤◌, length};
 ghost use Rattle.words.specs.Flow.{from};
 ghost use Rattle.words.specs.Refusals.{Refuses};
 ghost use Rattle.words.specs.Tapes.{tape_flow, tape_few};
 ghost use Rattle.words.specs.declared.Mark.{Mark};
 
 use crate::{LONGEST, Mark, OutOfRange, Source};
+use std::convert::AsSlice;
 
-/// A lent list of words, ending with the mark `Spent`.
+/// A list of words, ending with the mark `Spent`.
 #[derive(Drop)]
-pub struct Tape<'a> {
-    words: &'a [u32],
+pub struct Tape<B: AsSlice<u32>> {
+    words: B,
     at: usize,
+    ghost few: { length (B.items words) ≤ 2 ^ 40 },
 }
 
-impl<'a> Tape<'a> {
-    /// All of `words`, and then the mark `Spent`.
-    pub fn new(words: &'a [u32]) -> Result<Tape<'a>, OutOfRange>
-        ensures { Refuses (2 ^ 40 < length words.now) result (λ t. tape_flow t ≡ from words.now Mark.Spent) }
+impl<B: AsSlice<u32>> Tape<B> {
+    /// All of a list that is not too long, and then the mark `Spent`.
+    pub fn of_few(words: B) -> Tape<B>
+        requires { length (B.items words) ≤ 2 ^ 40 }
+        ensures { tape_flow (B.items result.words) result.at ≡ from (B.items words) Mark.Spent }
     {
-        if words.len() > LONGEST {
-            return Err(OutOfRange);
-        }
-        Ok(Tape { words, at: 0 })
+        Tape { words, at: 0 }
     }
 }
 
-impl Source for Tape<'_> {
-    ghost flow = { tape_flow };
+impl<B: AsSlice<u32> + Drop> Tape<B> {
+    /// All of `words`, and then the mark `Spent`.
+    pub fn new(words: B) -> Result<Tape<B>, OutOfRange>
+        ensures { Refuses (2 ^ 40 < length (B.items words)) result (λ t. tape_flow (B.items t.words) t.at ≡ from (B.items words) Mark.Spent) }
+    {
+        if words.as_slice().len() > LONGEST {
+            return Err(OutOfRange);
+        }
+        Ok(Tape::of_few(words))
+    }
+}
 
-    ghost few = { tape_few };
+impl<B: AsSlice<u32>> Source for Tape<B> {
+    ghost flow = { λ t. tape_flow (B.items t.words) t.at };
+
+    ghost few = { λ t. tape_few (B.items t.words) t.at t.few };
 
     fn draw(&mut self) -> Result<u32, Mark> {
-        // `new` lets no longer slice pass, but an invariant on a lent slice cannot be stated.
-        let end = self.words.len().min(LONGEST);
-        if self.at < end {
-            let word = self.words[self.at];
-            self.at += 1;
-            Ok(word)
-        } else {
-            Err(Mark::Spent)
-        }
+        let word = *self.words.as_slice().get(self.at).ok_or(Mark::Spent)?;
+        self.at += 1;
+        Ok(word)
     }
 }

@@ -23,6 +23,7 @@ impl Cutoff {
     }
 }
 
+// A flag beside the values: that what is noted is a plain record with `run` below `cutoff` is a rule of the project.
 #[derive(Clone, Copy)]
 pub struct Watch {
     pub cutoff: u32,

@@ -1,4 +1,4 @@
-use Rattle.std.proofs.Common.{◌≡◌, ◌+◌, ◌-◌, ◌++◌, length, sym, refl, ap, ◌∙◌, arith, rules}
+use Rattle.std.proofs.Common.{◌≡◌, ◌+◌, ◌-◌, ◌++◌, sym, refl, ap, arith, rules}
 use Rattle.std.proofs.lemmas.Result.{err_from_is_err_and}
 use Rattle.shares.specs.Refresh.{rows}
 use Rattle.shares.proofs.Progress.{row_more, rows_more, row_none, rows_none, goes_start, goes_then, goes_pair, goes_done, goes_short}
@@ -14,8 +14,7 @@ loop-j-init g c = goes_start _ (sym (rows_more c.loop-i.i _ c.loop-i-test.true))
 
 pub refresh_pair-requires : goal.refresh_pair-requires
 refresh_pair-requires g c =
-    let hx : length c.loop-j.shares ≡ g.row.M = c.loop-j.invariant.long ∙ c.loop-i.invariant.long ∙ c.requires.sized in
-    (search rules, (hx, (omega arith, (omega arith, c.loop-j.invariant.within))))
+    (search rules, (omega arith, (omega arith, c.loop-j.invariant.within)))
 
 pub returns-in_err-refresh_pair : goal.returns-in_err-refresh_pair
 returns-in_err-refresh_pair g c =

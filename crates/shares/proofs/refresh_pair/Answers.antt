@@ -11,7 +11,7 @@ returns g c =
     let xs = c.args.shares.now in
     let i = c.args.i in
     let j = c.args.j in
-    let hx : length xs ≡ g.row.M = c.requires.sized in
+    let hx : length xs ≡ g.row.M = search rules in
     let ins : j < length xs = omega arith in
     let r = c.in_ok-mask.mask in
     let m = c.in_ok-mask.ensures.by in
@@ -26,10 +26,10 @@ returns g c =
 
 pub join-a-requires : goal.join-a-requires
 join-a-requires g c =
-    let hx = c.requires.sized in
+    let hx : length c.args.shares.now ≡ g.row.M = search rules in
     (c.requires.within c.args.i (omega arith), c.in_ok-mask.ensures.by.1.0)
 
 pub join-b-requires : goal.join-b-requires
 join-b-requires g c =
-    let hx = c.requires.sized in
+    let hx : length c.args.shares.now ≡ g.row.M = search rules in
     (c.requires.within c.args.j (omega arith), search rules)

@@ -1,30 +1,30 @@
-use Rattle.std.proofs.Common.{◌≡◌, ℕ, ◌+◌, ◌-◌, List, ◌++◌, take, drop, sym, ap, ◌∙◌, subst, append_assoc, append-nil, arith, take-add}
-use Rattle.std.proofs.lemmas.List.{take_all, take_more}
+use Rattle.std.proofs.Common.{◌≡◌, ℕ, suc, ◌-◌, ◌≤◌, List, [], ◌∷◌, ◌++◌, length, get_or, take, drop, sym, ap, ◌∙◌, subst, append_assoc, arith}
+use Rattle.std.proofs.lemmas.List.{take_all, take-append-drop}
 use Rattle.shake.specs.declared.Shake256.{Shake256}
 use Rattle.shake.specs.Progress.{Absorbing}
 use Rattle.shake.proofs.Shake256.absorb.Goals as goal
 
--- two parts that follow one another
-joined : (m xs ys zs : List ℕ) (h : Shake256) → zs ≡ xs ++ ys → Absorbing ((m ++ xs) ++ ys) h → Absorbing (m ++ zs) h
-joined m xs ys zs h e a = subst (λ (t : List ℕ). Absorbing t h) (append_assoc m xs ys ∙ ap (λ (t : List ℕ). m ++ t) (sym e)) a
+-- the hasher h is g after the bytes before rest
+abbrev Before : List ℕ → List ℕ → Shake256 → Shake256 → Type 0
+Before bytes rest g h = (front : List ℕ) × (bytes ≡ front ++ rest) × ((m : List ℕ) → Absorbing m g → Absorbing (m ++ front) h)
 
-pub loop-i-init : goal.loop-i-init
-loop-i-init c = (λ m a. subst (λ (t : List ℕ). Absorbing t c.args.self.now) (sym (append-nil m)) a, omega arith)
+further : (bytes rest part behind : List ℕ) (g h k : Shake256) → Before bytes rest g h → rest ≡ part ++ behind
+    → ((m : List ℕ) → Absorbing m h → Absorbing (m ++ part) k) → Before bytes behind g k
+further bytes rest part behind g h k b e more = (
+  b.0 ++ part,
+  b.1 ∙ ap (λ (t : List ℕ). b.0 ++ t) e ∙ sym (append_assoc b.0 part behind),
+  λ m a. subst (λ (t : List ℕ). Absorbing t k) (append_assoc m b.0 part) (more (m ++ b.0) (b.2 m a)),
+)
 
-pub loop-i-preserved-then-bytes-i-ge8 : goal.loop-i-preserved-then-bytes-i-ge8
-loop-i-preserved-then-bytes-i-ge8 c =
-    let i : ℕ = c.loop-i.i in
-    let bs : List ℕ = c.args.bytes.now in
-    let e : i + 8 - i ≡ 8 = omega arith in
-    let part = take-add i 8 bs ∙ ap (λ (n : ℕ). take i bs ++ take n (drop i bs)) (sym e) in
-    (λ m a. joined m (take i bs) _ _ _ part (c.absorb_lane.ensures (m ++ take i bs) (c.loop-i.invariant.0 m a)), omega arith)
+first_apart : (xs : List ℕ) → 1 ≤ length xs → xs ≡ (get_or xs 0 0 ∷ []) ++ take (length xs - 1) (drop 1 xs)
+first_apart [] h = absurd (omega arith)
+first_apart (x ∷ xs) h = ap (λ (t : List ℕ). x ∷ t) (sym (take_all (suc (length xs) - 1) xs (omega arith)))
 
-pub loop-i-preserved : goal.loop-i-preserved
-loop-i-preserved c =
-    let i : ℕ = c.loop-i.i in
-    let bs : List ℕ = c.args.bytes.now in
-    (λ m a. joined m (take i bs) _ _ _ (take_more bs i 0 c.loop-i-test.true) (c.absorb_byte.ensures (m ++ take i bs) (c.loop-i.invariant.0 m a)), omega arith)
+pub loop-rest-preserved-in-Some : goal.loop-rest-preserved-in-Some
+loop-rest-preserved-in-Some c =
+    let cut = c.in-Some.ensures.cases in
+    let rest : List ℕ = c.loop-rest.rest.now in
+    further c.args.bytes.now rest c.in-Some.lane.now c.in-Some.behind.now _ _ _ c.loop-rest.invariant (sym (take-append-drop 8 rest) ∙ cc) c.absorb_lane.ensures
 
-pub returns : goal.returns
-returns c =
-    λ m a. subst (λ (t : List ℕ). Absorbing (m ++ t) c.loop-i.self) (take_all c.loop-i.i c.args.bytes.now c.loop-i-test.false) (c.loop-i.invariant.0 m a)
+pub loop-rest-preserved : goal.loop-rest-preserved
+loop-rest-preserved c = further c.args.bytes.now c.loop-rest.rest.now _ _ _ _ _ c.loop-rest.invariant (first_apart c.loop-rest.rest.now c.in-len1-up.len_at_least) c.absorb_byte.ensures

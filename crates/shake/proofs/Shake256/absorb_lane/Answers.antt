@@ -19,9 +19,8 @@ returns c =
     let k : ℕ = c.args.self.now.pos in
     let bs : List ℕ = c.args.bytes.now in
     let l : k / 8 < length s = omega arith in
-    let le : k + 8 ≤ 136 = omega (arith, c.requires.pos_value) in
+    let le : k + 8 ≤ 136 = omega (arith, c.requires) in
     let place : c.advance-self.result ≡ (k + length bs) % 136 = omega arith in
-    let n : length bs ≡ 8 = c.requires.bytes_len in
-    let w = eight_number bs c.from_le_bytes-lane.result n c.from_le_bytes-lane.ensures in
-    let x = lane_is s k c.from_le_bytes-lane.result bs l c.requires.pos_value n (each_byte bs (λ i. (c.type_inv.bytes i).fits)) w in
-    absorbing_more m bs c.args.self.now _ a (c.advance-self.ensures.state ∙ ap (passed (k + 8)) x ∙ fed-lane s k bs n le) place
+    let w = eight_number bs c.from_le_bytes.result c.told-bytes c.from_le_bytes.ensures in
+    let x = lane_is s k c.from_le_bytes.result bs l c.requires c.told-bytes (each_byte bs c.fits-bytes) w in
+    absorbing_more m bs c.args.self.now _ a (c.advance-self.ensures.state ∙ ap (passed (k + 8)) x ∙ fed-lane s k bs c.told-bytes le) place
