@@ -1,21 +1,11 @@
 -- Coefficients by their places in the bytes.
-use Rattle.std.proofs.Common.{◌≡◌, ℕ, zero, suc, ◌+◌, ◌*◌, ◌/◌, ◌%◌, ◌^◌, ◌<◌, List, [], ◌∷◌, length, get_or, ℤ, sym, refl, ap, ◌∙◌, ap₂, arith, w16, to_z}
+use Rattle.std.proofs.Common.{◌≡◌, ℕ, zero, suc, ◌*◌, ◌/◌, ◌%◌, ◌^◌, ◌<◌, List, [], ◌∷◌, length, get_or, sym, refl, ap, ◌∙◌, ap₂, arith}
 use Rattle.record.specs.Layout.{z_of, unpacked}
 
 pub length_z : (bs : List ℕ) → length (z_of bs) ≡ length bs / 2
 length_z [] = refl
 length_z (a ∷ []) = refl
 length_z (a ∷ b ∷ bs) = ap suc (length_z bs) ∙ omega arith
-
-pub get_d_z : (bs : List ℕ) (i : ℕ) (d : ℤ) → 2 * i + 1 < length bs → get_or (z_of bs) i d ≡ to_z w16 (get_or bs (2 * i) 0 + get_or bs (2 * i + 1) 0 * 256)
-get_d_z [] i d h = absurd (omega arith)
-get_d_z (a ∷ []) i d h = absurd (omega arith)
-get_d_z (a ∷ b ∷ bs) zero d h = refl
-get_d_z (a ∷ b ∷ bs) (suc i) d h =
-    let e : 2 * suc i ≡ suc (suc (2 * i)) = omega arith in
-    let f : 2 * suc i + 1 ≡ suc (suc (2 * i + 1)) = omega arith in
-    get_d_z bs i d (omega arith)
-    ∙ ap₂ (λ (j k : ℕ). to_z w16 (get_or (a ∷ b ∷ bs) j 0 + get_or (a ∷ b ∷ bs) k 0 * 256)) (sym e) (sym f)
 
 pub length_unpacked : (bs : List ℕ) → length (unpacked bs) ≡ 4 * length bs
 length_unpacked [] = refl
