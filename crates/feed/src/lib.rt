@@ -2,37 +2,20 @@
 #![tactic(auto)]
 
 ghost use Rattle.std.specs.Prelude.{◌≡◌, ◌^◌, ◌<◌, ◌≤◌, [], vec_len, IfOk, MatchResult};
-ghost use Rattle.feed.specs.Feed.{feed_few, feed_flow, reel_flow};
+ghost use Rattle.feed.specs.Feed.{feed_few, feed_flow};
 ghost use Rattle.words.specs.Flow.{Drawn, from};
 ghost use Rattle.words.specs.Generators.{generator_flow, stretched};
 ghost use Rattle.words.specs.Health.{Steady, health_flow};
 ghost use Rattle.words.specs.Refusals.{Refuses};
 ghost use Rattle.words.specs.declared.Mark.{Mark};
 
-mod reel;
-
-use reel::Reel;
 use std::alloc::{AllocError, Global};
-use words::{Cutoff, Generator, Mark, OutOfRange, Source, Watch};
-
-impl Reel {
-    fn draw(&mut self) -> Result<u32, Mark>
-        ensures { Drawn result (reel_flow self.old) (reel_flow self.new) }
-    {
-        if self.at < self.words.len() {
-            let word = self.words[self.at];
-            self.at += 1;
-            Ok(word)
-        } else {
-            Err(Mark::Spent)
-        }
-    }
-}
+use words::{Cutoff, Generator, Mark, OutOfRange, Source, Tape, Watch};
 
 // A source whose kind is known only at run time.
 #[derive(Drop)]
 pub enum Feed {
-    Tape(Reel),
+    Tape(Tape<Vec<u32>>),
     Stretched(Generator),
     Checked(Watch, Box<Feed>),
 }
@@ -42,20 +25,14 @@ impl Feed {
     pub fn tape(words: Vec<u32>) -> Result<Feed, OutOfRange>
         ensures { Refuses (2 ^ 40 < vec_len words) result (λ f. feed_flow f ≡ from words.items Mark.Spent) }
     {
-        if words.len() > 1 << 40 {
-            return Err(OutOfRange);
-        }
-        Ok(Feed::Tape(Reel { words, at: 0 }))
+        Ok(Feed::Tape(Tape::new(words)?))
     }
 
     // No word, and the mark `Spent`.
     pub fn empty(heap: Global) -> Feed
         ensures { feed_flow result ≡ from [] Mark.Spent }
     {
-        Feed::Tape(Reel {
-            words: Vec::new(heap),
-            at: 0,
-        })
+        Feed::Tape(Tape::of_few(Vec::new(heap)))
     }
 
     // The first `count` words of SHAKE256 of a seed, and then the mark `Spent`.
@@ -84,33 +61,21 @@ impl Feed {
     }
 }
 
-// The word that comes next, through each check from the lowest up.
-fn draw_from(feed: &mut Feed) -> Result<u32, Mark>
-    ensures { Drawn result (feed_flow feed.old) (feed_flow feed.new) }
-{
-    match feed {
-        Feed::Tape(reel) => reel.draw(),
-        Feed::Stretched(generator) => generator.draw(),
-        Feed::Checked(watch, below) => {
-            if watch.failed {
-                return Err(Mark::Unhealthy);
-            }
-            let word = draw_from(below)?;
-            if watch.admits(word) {
-                Ok(word)
-            } else {
-                Err(Mark::Unhealthy)
-            }
-        }
-    }
-}
-
 impl Source for Feed {
     ghost flow = { feed_flow };
 
     ghost few = { feed_few };
 
+    // The word that comes next, through each check from the lowest up.
     fn draw(&mut self) -> Result<u32, Mark> {
-        draw_from(self)
+        match self {
+            Feed::Tape(tape) => tape.draw(),
+            Feed::Stretched(generator) => generator.draw(),
+            Feed::Checked(watch, below) => {
+                watch.check()?;
+                let word = below.draw()?;
+                watch.admit(word)
+            }
+        }
     }
 }

@@ -38,9 +38,7 @@ pub fn sec_add<const M: usize, S: Source>(
     let mut p = sum;
     let mut g = sec_and(x, y, src)?;
     for level in 0..4u32 {
-        let (wider_g, wider_p) = widen(g, p, 1 << level, src)?;
-        g = wider_g;
-        p = wider_p;
+        (g, p) = widen(g, p, 1 << level, src)?;
     }
     // The last level needs no further runs.
     let carried = sec_and(shift_left(g, 16), p, src)?;

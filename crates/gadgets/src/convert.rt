@@ -1,12 +1,12 @@
 // From residue shares to word shares, and back.
-ghost use Rattle.std.specs.Prelude.{◌≡◌, ◌+◌, ◌-◌, ◌*◌, ◌<◌};
+ghost use Rattle.std.specs.Prelude.{◌≡◌, ◌+◌, ◌-◌, ◌*◌, ◌<◌, slice_index};
 ghost use Rattle.words.specs.Spending.{Spends};
 ghost use Rattle.shares.specs.Rule.{Within};
 ghost use Rattle.shares.specs.Groups.{residue_rule, word_of, residue_of};
 ghost use Rattle.shares.specs.Refresh.{pairs};
 
 use crate::modular::sec_add_modp;
-use linear::public;
+use linear::{each, public};
 use shares::{Group, Residues, Shares, Words, fresh, open};
 use words::{Mark, Source};
 
@@ -21,11 +21,24 @@ pub fn to_words<const M: usize, S: Source>(
     ensures { Spends (M * (33 * pairs M)) result (S.flow src.old) (S.flow src.new) (λ z. word_of z ≡ residue_of ring.p x.entry) }
 {
     let mut sum = [0; M];
-    for i in 0..M {
-        let part = fresh(&Words, public(x[i]), src)?;
+    for share in x {
+        let part = fresh(&Words, public(share), src)?;
         sum = sec_add_modp(sum, part, ring, src)?;
     }
     Ok(sum)
+}
+
+// Masks for all shares but the first, which stays 0.
+fn draw_masks<const M: usize, S: Source>(ring: Residues, src: &mut S) -> Result<Shares<M>, Mark>
+    requires some { 0 < M }
+    ensures { Spends ((residue_rule ring.p).cost * (M - 1)) result (S.flow src.old) (S.flow src.new) (λ z. Within (residue_rule ring.p) z × (slice_index z 0 ≡ 0)) }
+{
+    let mut out = [0; M];
+    // By index, since a slice or a skip would take the shares apart.
+    for i in 1..M {
+        out[i] = ring.mask(src)?;
+    }
+    Ok(out)
 }
 
 /// Residue shares of the word that `x` stands for. All shares but the first are masks; the first is what they leave of the word, opened.
@@ -38,13 +51,8 @@ pub fn to_residues<const M: usize, S: Source>(
     requires below { word_of x < ring.p }
     ensures { Spends ((residue_rule ring.p).cost * (M - 1) + (M + 1) * (33 * pairs M)) result (S.flow src.old) (S.flow src.new) (λ z. Within (residue_rule ring.p) z × (residue_of ring.p z ≡ word_of x.entry)) }
 {
-    let mut out = [0; M];
-    let mut negatives = [0; M];
-    for i in 1..M {
-        let mask = ring.mask(src)?;
-        out[i] = mask;
-        negatives[i] = ring.inverse(mask);
-    }
+    let mut out = draw_masks(ring, src)?;
+    let negatives = each(out, |share| ring.inverse(share));
     let less = to_words(negatives, ring, src)?;
     let rest = sec_add_modp(less, x, ring, src)?;
     out[0] = open(&Words, rest, src)?;

@@ -2,7 +2,7 @@
 use Rattle.std.proofs.Common.{◌≡◌, ℕ, zero, suc, ◌+◌, ◌*◌, ◌/◌, ◌%◌, ◌<◌, ◌≤◌, List, length, get_or, sym, ap, ◌∙◌, subst, mul-zero, div-add-mod', arith}
 use Rattle.std.proofs.lemmas.Nat.{mul-le, mul-add-lt, div-mul-add, mod-mul-add, div_below, mod_below}
 use Rattle.std.proofs.lemmas.List.FromFn.{length-map-range_with_len, get_or-map-range_with_len, fill_by_all}
-use Rattle.params.specs.Params.{Params}
+use Rattle.params.specs.Params.{Params, Sound}
 use Rattle.shares.specs.Rule.{Within, recombine}
 use Rattle.shares.specs.Groups.{residue_rule}
 use Rattle.shares.specs.Lawful.{residue_laws}
@@ -118,15 +118,21 @@ module _ (s : Params) (m : ℕ) where
   unfolding values
   values-at count area c h = get_or-map-range_with_len (λ (c : ℕ). recombine (residue_rule s.p) (shares_of s.n m area c)) 0 count c c 0 h (omega arith)
 
+  value-inside : (c : ℕ) (area : List ℕ) → 0 < s.n → 1 < s.p → (c / s.n + 1) * m * s.n ≤ length area → Within (residue_rule s.p) area → recombine (residue_rule s.p) (shares_of s.n m area c) < s.p
+  value-inside c area some big inside w = recombine-in (residue_rule s.p) (residue_laws s.p big) (shares_of s.n m area c) (shares-within s.n m s.p area c some inside w)
+
   -- what shares that are residues stand for is a residue
-  pub value-below : (c : ℕ) (area : List ℕ) → 0 < s.n → 1 < s.p → (c / s.n + 1) * m * s.n ≤ length area → Within (residue_rule s.p) area → recombine (residue_rule s.p) (shares_of s.n m area c) < s.p
-  value-below c area some big inside w = recombine-in (residue_rule s.p) (residue_laws s.p big) (shares_of s.n m area c) (shares-within s.n m s.p area c some inside w)
+  pub value-below : Sound s → (h c : ℕ) (area : List ℕ) → c < h * s.n → length area ≡ h * m * s.n → Within (residue_rule s.p) area → recombine (residue_rule s.p) (shares_of s.n m area c) < s.p
+  value-below sound h c area l long w =
+      let some : 0 < s.n = let least = sound.n_least in omega arith in
+      let big : 1 < s.p = let a = sound.k_below_p in let b = sound.alpha_below_k in omega arith in
+      value-inside c area some big (polynomial-inside s.n m some h c area l long) w
 
   pub values-residues : (h count : ℕ) (area : List ℕ) → 0 < s.n → 1 < s.p → count ≤ h * s.n → length area ≡ h * m * s.n → Within (residue_rule s.p) area → Within (residue_rule s.p) (values s m count area)
   values-residues h count area some big few long w c l =
       let b : c < count = let e = values-long count area in omega arith in
       let inside = polynomial-inside s.n m some h c area (omega arith) long in
-      subst (λ (v : ℕ). v < s.p) (sym (values-at count area c b)) (value-below c area some big inside w)
+      subst (λ (v : ℕ). v < s.p) (sym (values-at count area c b)) (value-inside c area some big inside w)
 
   pub recombined-long : (area : List ℕ) → length (recombined s m area) ≡ 2 * s.n
   unfolding recombined

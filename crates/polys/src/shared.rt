@@ -42,10 +42,8 @@ impl<'a, const K: usize, const M: usize, S: ParamSet> Shared<'a, K, M, S> {
         requires residues { Residues S.params.p area.now }
         ensures { result.area.now ≡ area.now }
     {
-        Shared {
-            area,
-            set: PhantomData,
-        }
+        let set = PhantomData;
+        Shared { area, set }
     }
 
     /// The shares of coefficient c, counted through the polynomials.

@@ -28,6 +28,7 @@ fn pass<const M: usize, S: ParamSet, W: Source>(
 {
     let ring = shares::Residues::of::<S>();
     let mut pass = public(1);
+    // By number: the shares of a coefficient stand apart in the area.
     'coefficients: for c in 0..coefficients::<S>() {
         pass = check_coefficient(z.coefficient(c), pass, S::reach(), ring, masks)?;
     }

@@ -1,10 +1,14 @@
 -- What the opened bit tells.
-use Rattle.std.proofs.Common.{◌≡◌, ℕ, ◌<◌, ◌≤◌, ltb, ◌≢◌, inl, inr, arith}
+use Rattle.std.proofs.Common.{◌≡◌, ℕ, List, inl, inr, sym, subst, ltb}
 use Rattle.std.proofs.lemmas.Bool.{cases_lt, cond-true, cond-false, lt-ltb, le-ltb}
+use Rattle.std.specs.Bool.{then_some}
+use lib.Dec.{eqb}
+use Rattle.shares.specs.Groups.{word_of}
 use Rattle.gadgets.specs.Words.{is_below}
+use Rattle.steps.specs.Candidate.{Judged}
 
-pub below_of : (x k : ℕ) → is_below x k ≡ 1 → x < k
-below_of x k e = elim (cases_lt x k) [ inl l ↦ l | inr g ↦ (let f : is_below x k ≡ 0 = cond-false (ltb x k) 1 0 (le-ltb x k g) in absurd (omega arith)) ]
-
-pub above_of : (x k : ℕ) → is_below x k ≢ 1 → k ≤ x
-above_of x k e = elim (cases_lt x k) [ inl l ↦ absurd (e (cond-true (ltb x k) 1 0 (lt-ltb x k l))) | inr g ↦ g ]
+pub judged : (x k : ℕ) (zs : List ℕ) → word_of zs ≡ x → Judged k x (then_some (eqb (is_below x k) 1) zs)
+judged x k zs e = elim (cases_lt x k) [
+  | inl l ↦ subst (λ (b : ℕ). Judged k x (then_some (eqb b 1) zs)) (sym (cond-true (ltb x k) 1 0 (lt-ltb x k l))) (l, e)
+  | inr g ↦ subst (λ (b : ℕ). Judged k x (then_some (eqb b 1) zs)) (sym (cond-false (ltb x k) 1 0 (le-ltb x k g))) g
+]

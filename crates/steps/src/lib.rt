@@ -25,8 +25,8 @@ fn draw_shares<const M: usize, S: Source>(src: &mut S) -> Result<Shares<M>, Mark
     ensures { Spends M result (S.flow src.old) (S.flow src.new) (λ z. z ≡ take M (S.flow src.old).words) }
 {
     let mut out = [0; M];
-    for i in 0..M {
-        out[i] = src.draw()?;
+    for share in &mut out {
+        *share = src.draw()?;
     }
     Ok(out)
 }
@@ -45,7 +45,7 @@ fn judge<const M: usize, S: Source>(
     let x = fresh(&Words, x, src)?;
     let below = sec_below(x, limit, src)?;
     let bit = open(&Words, below, src)?;
-    if bit == 1 { Ok(Some(x)) } else { Ok(None) }
+    Ok((bit == 1).then_some(x))
 }
 
 /// One candidate: the low `bits` bits of the next `M` nonce words are its shares, and it is refused unless it is below `limit`.

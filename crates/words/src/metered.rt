@@ -15,8 +15,7 @@ pub struct Metered<'a, S: Source> {
 impl<'a, S: Source> Metered<'a, S> {
     /// A meter on the source that is lent, from 0 on.
     pub fn new(src: &'a mut S) -> Metered<'a, S>
-        ensures source { result.src ≡ src.entry }
-        ensures start { result.count ≡ 0 }
+        ensures { result ≡ record { src = src.entry; count = 0 } }
     {
         Metered { src, count: 0 }
     }

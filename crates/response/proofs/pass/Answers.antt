@@ -3,7 +3,7 @@ use Rattle.std.proofs.lemmas.Result.{err_from_is_err_and}
 use Rattle.linear.proofs.Sharewise.{word_public}
 use Rattle.shares.specs.Groups.{residue_rule}
 use Rattle.shares.specs.Rule.{Within}
-use Rattle.polys.proofs.Places.{polynomial-inside, value-below}
+use Rattle.polys.proofs.Places.{value-below}
 use Rattle.response.proofs.Nearness.{passing-none, passing-more, passing-all, passing-short}
 use Rattle.response.proofs.pass.Goals as goal
 
@@ -22,12 +22,9 @@ pub coefficients-preserved : goal.coefficients-preserved
 coefficients-preserved g c =
     let s = g.S.ParamSet.params in
     let z = c.args.z.area.now in
-    let least = g.S.ParamSet.sound.n_least in
     let near = g.S.ParamSet.sound.k_below_p in
-    let some = g.S.ParamSet.sound.alpha_below_k in
     let n = c.coefficients-c-end.ensures in
-    let inside = polynomial-inside s.n g.row.M (omega arith) 2 c.coefficients.c z (omega arith) c.args.z.sized in
-    let below = value-below s g.row.M c.coefficients.c z (omega arith) (omega arith) inside c.args.z.residues in
+    let below = value-below s g.row.M g.S.ParamSet.sound 2 c.coefficients.c z (omega arith) c.args.z.sized c.args.z.residues in
     let d = c.in_ok-pass.ensures.by in
     passing-more s g.row.M z (g.W.Source.flow c.args.masks.now) c.coefficients.c c.coefficient.result c.coefficients.pass c.in_ok-pass.pass c.of-ring.result.p c.reach.result
     c.of-ring.ensures c.reach.ensures c.coefficient.ensures.shares below (omega arith) d.0 d.1 c.coefficients.invariant

@@ -16,15 +16,15 @@ small j h = subst (λ (m : ℕ). m < 32) (sym (one_shl j 32 (omega arith))) (pow
 pub widen-requires : goal.widen-requires
 widen-requires g c = let s : (1 * 2 ^ c.loop-level.level) % 2 ^ 32 < 32 = small c.loop-level.level (omega arith) in search rules
 
-pub returns-in_err-wider_g : goal.returns-in_err-wider_g
-returns-in_err-wider_g g c =
+pub returns-in_err-g-2 : goal.returns-in_err-g-2
+returns-in_err-g-2 g c =
     let t = times_below c.loop-level.level 4 (3 * pairs g.row.M) c.loop-level-test.true in
-    let s = short_of {b = 14 * pairs g.row.M} (short_then (spent_then c.in_ok-g.ensures.by.0 c.loop-level.invariant.1) c.in_err-wider_g.ensures.by) (omega arith) in
+    let s = short_of {b = 14 * pairs g.row.M} (short_then (spent_then c.in_ok-g.ensures.by.0 c.loop-level.invariant.1) c.in_err-g-2.ensures.by) (omega arith) in
     search rules
 
 pub loop-level-preserved : goal.loop-level-preserved
 loop-level-preserved g c =
-    let w = c.in_ok-wider_g.ensures.by in
+    let w = c.in_ok-g-2.ensures.by in
     let j = c.loop-level.level in (
       λ k h. level j ((1 * 2 ^ j) % 2 ^ 32) k _ _ _ _ (one_shl j 32 (omega arith)) (c.loop-level.invariant.0 k h) w.1.0 w.1.1,
       spent_as (spent_then c.loop-level.invariant.1 w.0) (times_more j (3 * pairs g.row.M)),

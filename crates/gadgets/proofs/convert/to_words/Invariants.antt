@@ -6,8 +6,8 @@ use Rattle.shares.specs.Refresh.{pairs}
 use Rattle.shares.proofs.Folding.{Left}
 use Rattle.gadgets.proofs.convert.to_words.Given as goal
 
-abbrev pub invariant-loop-i : goal.invariant-loop-i
-invariant-loop-i g l =
+abbrev pub invariant-loop-share : goal.invariant-loop-share
+invariant-loop-share g l =
     let s = g.S.Source.flow in
-    Left (residue_rule l.ring.p) (residue_laws l.ring.p l.ring.some) l.x (word_of l.sum) l.i
-    × Spent (l.i * (33 * pairs g.row.M)) (s l.initial.src) (s l.src)
+    Left (residue_rule l.ring.p) (residue_laws l.ring.p l.ring.some) l.share-items (word_of l.sum) l.share-index
+    × Spent (l.share-index * (33 * pairs g.row.M)) (s l.initial.src) (s l.src)

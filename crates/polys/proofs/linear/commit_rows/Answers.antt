@@ -1,5 +1,5 @@
-use Rattle.std.proofs.Common.{◌≡◌, ℕ, ◌+◌, ◌*◌, ◌<◌, List, length, ◌∙◌, ap₂, arith, rules}
-use Rattle.ring.specs.Ring.{plus, product}
+use Rattle.std.proofs.Common.{◌≡◌, ℕ, ◌+◌, ◌*◌, ◌<◌, length, ◌∙◌, arith, rules}
+use Rattle.ring.specs.Ring.{product}
 use Rattle.polys.specs.Area.{row}
 use Rattle.polys.proofs.Rows.{Written, row_before, written-more, sums_residues}
 use Rattle.polys.proofs.Sums.{commit_row, commit_value}
@@ -12,7 +12,7 @@ shares-preserved g c =
     let i = c.shares.i in
     let b = row_before s.n i g.row.M (omega arith) in
     let long : length c.multiply_add.new.out ≡ s.n = search rules in
-    let is : c.multiply_add.new.out ≡ commit_row s g.row.M a c.args.y.area.now i = c.multiply_add.ensures.value ∙ ap₂ (λ (u v : List ℕ). plus s.p (product s.p a u) v) c.row.ensures c.row-in-shares.ensures in
+    let is : c.multiply_add.new.out ≡ commit_row s g.row.M a c.args.y.area.now i = rw (c.row.ensures, c.row-in-shares.ensures) at c.multiply_add.ensures.value in
     written-more s.n (commit_row s g.row.M a c.args.y.area.now) i c.shares.r c.multiply_add.new.out c.degree-n.result c.degree-n.ensures (omega arith) long is c.shares.invariant
 
 pub returns : goal.returns

@@ -1,5 +1,5 @@
-use Rattle.std.proofs.Common.{◌≡◌, ℕ, ◌*◌, ◌<◌, List, length, ◌∙◌, ap₂, arith, rules}
-use Rattle.ring.specs.Ring.{plus, product}
+use Rattle.std.proofs.Common.{◌≡◌, ℕ, ◌*◌, ◌<◌, length, ◌∙◌, arith, rules}
+use Rattle.ring.specs.Ring.{product}
 use Rattle.polys.specs.Area.{row}
 use Rattle.polys.proofs.Rows.{Written, row_before, written-more, sums_residues}
 use Rattle.polys.proofs.Sums.{respond_row, respond_value}
@@ -12,7 +12,7 @@ rows-preserved g c =
     let j = c.rows.j in
     let b = row_before s.n j (2 * g.row.M) (omega arith) in
     let long : length c.multiply_add.new.out ≡ s.n = search rules in
-    let is : c.multiply_add.new.out ≡ respond_row s c.args.key.area.now factor c.args.y.area.now j = c.multiply_add.ensures.value ∙ ap₂ (λ (u v : List ℕ). plus s.p (product s.p u factor) v) c.row.ensures c.row-in-rows.ensures in
+    let is : c.multiply_add.new.out ≡ respond_row s c.args.key.area.now factor c.args.y.area.now j = rw (c.row.ensures, c.row-in-rows.ensures) at c.multiply_add.ensures.value in
     written-more s.n (respond_row s c.args.key.area.now factor c.args.y.area.now) j c.rows.z c.multiply_add.new.out c.degree-n.result c.degree-n.ensures (omega arith) long is c.rows.invariant
 
 pub returns : goal.returns

@@ -1,4 +1,4 @@
-use Rattle.std.proofs.Common.{◌≡◌, ℕ, sym, ap, ◌∙◌, subst, arith, rules}
+use Rattle.std.proofs.Common.{◌≡◌, sym, subst, arith, rules}
 use Rattle.shares.specs.Groups.{residue_rule}
 use Rattle.shares.specs.Rule.{Within}
 use Rattle.polys.specs.Area.{shares_of}
@@ -20,7 +20,7 @@ returns g c =
     let area = c.args.self.area.now in
     let least = g.S.ParamSet.sound.n_least in
     let inside = polynomial-inside s.n g.row.M (omega arith) g.row.K c.args.c area c.requires.inside c.args.self.sized in
-    let is : c.gather.result ≡ shares_of s.n g.row.M area c.args.c = c.gather.ensures ∙ ap (λ (n : ℕ). shares_of n g.row.M area c.args.c) c.degree.ensures in
+    let is : c.gather.result ≡ shares_of s.n g.row.M area c.args.c = rw c.degree.ensures at c.gather.ensures in
     record {
       shares = is;
       within = subst (Within (residue_rule s.p)) (sym is) (shares-within s.n g.row.M s.p area c.args.c (omega arith) inside c.args.self.residues);
