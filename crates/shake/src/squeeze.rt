@@ -1,4 +1,4 @@
-ghost use Rattle.std.specs.Prelude.{◌≡◌, ℕ, ◌+◌, ◌*◌, ◌/◌, ◌%◌, ◌^◌, List, map, length, slice_index};
+ghost use Rattle.std.specs.Prelude.{◌≡◌, ℕ, ◌+◌, ◌*◌, ◌/◌, ◌%◌, ◌^◌, ◌≤◌, List, map, length, slice_index};
 ghost use Rattle.std.specs.List.{range_with_len};
 ghost use Rattle.shake.specs.Sponge.{shake_byte, shake_word16, shake_word32};
 ghost use Rattle.shake.specs.Progress.{Reading};
@@ -22,34 +22,33 @@ impl Squeezer {
         byte
     }
 
+    // The next N bytes, from their lane at once where they stand in one.
+    fn next_bytes<const N: usize>(&mut self) -> [u8; N]
+        requires { N ≤ 8 }
+        ensures { (m : List ℕ) (i : ℕ) → Reading m i self.old → (result ≡ map (shake_byte m) (range_with_len i N)) × Reading m (i + N) self.new }
+    {
+        let mut bytes = [0; N];
+        if self.pos % 8 + N <= 8 {
+            bytes.copy_from_slice(&self.rest_of_lane().to_le_bytes()[..N]);
+            self.pos = advance(&mut self.state, self.pos, N);
+        } else {
+            self.squeeze(&mut bytes);
+        }
+        bytes
+    }
+
     // The next two bytes, the low one first.
     pub fn next_u16(&mut self) -> u16
         ensures { (m : List ℕ) (i : ℕ) → Reading m i self.old → (result ≡ shake_word16 m i) × Reading m (i + 2) self.new }
     {
-        if self.pos % 2 == 0 {
-            let word = (self.rest_of_lane() & 0xffff) as u16;
-            self.pos = advance(&mut self.state, self.pos, 2);
-            word
-        } else {
-            let low = self.next_byte();
-            let high = self.next_byte();
-            (low as u16) + (high as u16) * 256
-        }
+        u16::from_le_bytes(self.next_bytes())
     }
 
     // The next four bytes, the lowest first.
     pub fn next_u32(&mut self) -> u32
         ensures { (m : List ℕ) (i : ℕ) → Reading m i self.old → (result ≡ shake_word32 m i) × Reading m (i + 4) self.new }
     {
-        if self.pos % 4 == 0 {
-            let word = (self.rest_of_lane() & 0xffff_ffff) as u32;
-            self.pos = advance(&mut self.state, self.pos, 4);
-            word
-        } else {
-            let low = self.next_u16();
-            let high = self.next_u16();
-            (low as u32) + (high as u32) * 65536
-        }
+        u32::from_le_bytes(self.next_bytes())
     }
 
     // Fills `out` with the next bytes.

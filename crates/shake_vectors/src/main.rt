@@ -3,7 +3,7 @@
 
 ghost use Rattle.std.specs.Prelude.{◌<◌};
 
-use shake::Shake256;
+use shake::{Shake256, Squeezer};
 use std::alloc::{AllocError, Global};
 use std::io;
 
@@ -60,8 +60,16 @@ fn long_output(rt: &HostRuntime, bytes: &[u8], len: usize) -> io::Result<()> {
     println!(rt; "output of {len} bytes: {text}")
 }
 
-// A checksum of 300 words of two bytes, after `skip` bytes of output.
-fn words_of_two(rt: &HostRuntime, bytes: &[u8], skip: usize) -> io::Result<()> {
+// A checksum of 300 words of `size` bytes, drawn after `skip` bytes of output.
+fn words<F: Fn(&mut Squeezer) -> u32>(
+    rt: &HostRuntime,
+    bytes: &[u8],
+    skip: usize,
+    size: &str,
+    draw: F,
+) -> io::Result<()>
+    requires { F.IsAlwaysCallable draw }
+{
     let mut hasher = Shake256::new();
     hasher.absorb(bytes);
     let mut squeezer = hasher.finish();
@@ -70,26 +78,9 @@ fn words_of_two(rt: &HostRuntime, bytes: &[u8], skip: usize) -> io::Result<()> {
     }
     let mut sum = 0u32;
     for _ in 0..300u32 {
-        sum = sum
-            .wrapping_mul(31)
-            .wrapping_add(squeezer.next_u16() as u32);
+        sum = sum.wrapping_mul(31).wrapping_add(draw(&mut squeezer));
     }
-    println!(rt; "words of two bytes from {skip}: {sum:08x}")
-}
-
-// A checksum of 300 words of four bytes, after `skip` bytes of output.
-fn words_of_four(rt: &HostRuntime, bytes: &[u8], skip: usize) -> io::Result<()> {
-    let mut hasher = Shake256::new();
-    hasher.absorb(bytes);
-    let mut squeezer = hasher.finish();
-    for _ in 0..skip {
-        squeezer.next_byte();
-    }
-    let mut sum = 0u32;
-    for _ in 0..300u32 {
-        sum = sum.wrapping_mul(31).wrapping_add(squeezer.next_u32());
-    }
-    println!(rt; "words of four bytes from {skip}: {sum:08x}")
+    println!(rt; "words of {size} bytes from {skip}: {sum:08x}")
 }
 
 // Two of NIST's known answers: the message of one byte 0f, and that of 200 bytes a3.
@@ -106,18 +97,21 @@ fn main(rt: HostRuntime) -> io::Result<()> {
         whole(&rt, bytes.as_slice())?;
     }
     let bytes = message(rt.alloc(), 1000)?;
-    in_parts(&rt, bytes.as_slice(), 1)?;
-    in_parts(&rt, bytes.as_slice(), 7)?;
-    in_parts(&rt, bytes.as_slice(), 8)?;
-    in_parts(&rt, bytes.as_slice(), 135)?;
-    in_parts(&rt, bytes.as_slice(), 136)?;
-    in_parts(&rt, bytes.as_slice(), 137)?;
+    for part in [1usize, 7, 8, 135, 136, 137] {
+        in_parts(&rt, bytes.as_slice(), part)?;
+    }
     for len in [0usize, 1, 136, 137, 600] {
         long_output(&rt, bytes.as_slice(), len)?;
     }
     for skip in [0usize, 1, 2, 3, 134] {
-        words_of_two(&rt, bytes.as_slice(), skip)?;
-        words_of_four(&rt, bytes.as_slice(), skip)?;
+        words(
+            &rt,
+            bytes.as_slice(),
+            skip,
+            "two",
+            |from| from.next_u16() as u32,
+        )?;
+        words(&rt, bytes.as_slice(), skip, "four", |from| from.next_u32())?;
     }
     Ok(())
 }
