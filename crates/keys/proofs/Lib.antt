@@ -3,3 +3,4 @@ mod Refreshing
 mod Splitting
 mod Loading
 pub mod Publishing
+mod Columns

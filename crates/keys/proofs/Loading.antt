@@ -19,9 +19,6 @@ pub record Step {A : Type 0} (p n m c v : ℕ) (r : Result A Mark) (key key' : L
   pub split : Spends ((residue_rule p).cost * (m - 1)) r f f' (λ _. Splits (residue_rule p) m f.words v (shares_of n m key' c))
   pub others : (k : ℕ) → k ≢ c → shares_of n m key' k ≡ shares_of n m key k
 
-pub step_as : {A : Type 0} {p p' n n' m c v : ℕ} {r : Result A Mark} {key key' : List ℕ} {f f' : Flow} → p ≡ p' → n ≡ n' → Step p n m c v r key key' f f' → Step p' n' m c v r key key' f f'
-step_as {m = m} {c = c} {v = v} {r = r} {key = key} {key' = key'} {f = f} {f' = f'} e d h = subst₂ (λ (p n : ℕ). Step p n m c v r key key' f f') e d h
-
 module _ (s : Params) (m : ℕ) (secret : List ℤ) (f₀ : Flow) where
   abbrev u : Rule
   u = residue_rule s.p

@@ -1,11 +1,11 @@
 -- The halves of the secret and of the public area.
-use Rattle.std.proofs.Common.{◌≡◌, ℕ, ◌+◌, ◌-◌, ◌*◌, ◌<◌, ◌≤◌, List, [], ◌++◌, length, take, drop, ℤ, sym, ap, ◌∙◌, subst, arith}
-use borrow.Rule.Slice.PartMut.{put_mid}
-use Rattle.std.proofs.lemmas.List.{append-nil, drop-drop, drop_all, get_or-take, get_or-drop, length-take-le, length-drop}
-use Rattle.params.specs.Params.{Params}
+use Rattle.std.proofs.Common.{◌≡◌, ℕ, ◌+◌, ◌*◌, ◌<◌, ◌≤◌, List, length, take, drop, ℤ, sym, ap, ◌∙◌, subst, arith}
+use Rattle.std.proofs.lemmas.List.{get_or-take, get_or-drop, length-map, length-take-le, length-drop}
+use Rattle.params.specs.Params.{Params, Sound}
+use Rattle.ring.proofs.Centring.{map_residues}
 use Rattle.ring.proofs.Polynomials.{residues_append, plus-residues}
 use Rattle.ring.specs.Laws.{Proper}
-use Rattle.ring.specs.Ring.{Residues, plus, product}
+use Rattle.ring.specs.Ring.{Residues, residue, product}
 use Rattle.keys.specs.Load.{public_key, residues_of}
 
 -- a half of 2n words, cut at m
@@ -25,14 +25,12 @@ front_residues p n xs h r k l =
     let long = length-take-le n xs h in
     rw (get_or-take n xs k 0 (omega arith)) (r k (omega arith))
 
+-- the residues of a whole secret
+pub secret-residues : (s : Params) (secret : List ℤ) (ss : List ℕ) → Sound s → length secret ≡ 2 * s.n → ss ≡ residues_of s secret → (length ss ≡ 2 * s.n) × Residues s.p ss
+secret-residues s secret ss sound long e =
+    let some : 0 < s.p = let h = sound.k_below_p in omega arith in
+    (ap length e ∙ length-map secret (residue s.p) ∙ long, subst (Residues s.p) (sym e) (map_residues s.p secret some))
+
 pub public_residues : (s : Params) (secret : List ℤ) (public : List ℕ) → 0 < s.p → Residues s.p (take s.n public) → Residues s.p (public_key s secret public)
 public_residues s secret public h r =
     residues_append s.p (take s.n public) _ r (plus-residues s.p (product s.p (take s.n public) (take s.n (residues_of s secret))) (drop s.n (residues_of s secret)) h)
-
--- t behind a is the public key
-pub published : (s : Params) (secret : List ℤ) (public ss s1 s2 a t room : List ℕ) (m : ℕ) → m ≡ s.n → length public ≡ 2 * s.n → ss ≡ residues_of s secret → s1 ≡ take m ss → s2 ≡ drop m ss
-    → a ≡ take m public → t ≡ plus s.p (product s.p a s1) s2 → room ≡ t → put_mid m (2 * m - m) public room ≡ public_key s secret public
-published s secret public ss s1 s2 a t room m cut long e f g h i j =
-    let behind : drop (2 * m - m) (drop m public) ≡ [] = drop-drop (2 * m - m) m public ∙ drop_all (m + (2 * m - m)) public (omega arith) in
-    let whole : put_mid m (2 * m - m) public room ≡ take m public ++ room = ap (λ (zs : List ℕ). take m public ++ (room ++ zs)) behind ∙ ap (λ (zs : List ℕ). take m public ++ zs) (append-nil room) in
-    whole ∙ cc

@@ -1,5 +1,5 @@
 -- A remask part of the way: the coefficients before c are refreshed, and the others are as before.
-use Rattle.std.proofs.Common.{◌≡◌, ℕ, ◌+◌, ◌*◌, ◌<◌, ◌≤◌, leb, ◌≢◌, List, [], ◌∷◌, length, drop, Ok, Err, Result, sym, refl, ap, ◌∙◌, subst, subst₂, ⊎_elim, arith}
+use Rattle.std.proofs.Common.{◌≡◌, ℕ, ◌+◌, ◌*◌, ◌<◌, ◌≤◌, leb, ◌≢◌, List, [], ◌∷◌, length, drop, Ok, Err, Result, sym, refl, ap, ◌∙◌, subst, ⊎_elim, arith}
 use Rattle.std.proofs.lemmas.List.{drop_all}
 use Rattle.std.proofs.lemmas.Bool.{cond-false, lt-leb, cases_lt, cases_eq}
 use Rattle.params.specs.Params.{Params}
@@ -23,9 +23,6 @@ refreshed_none u (p ∷ ps) xs h = cond-false (leb u.cost 0) (refreshed u ps (dr
 pub record Step {A : Type 0} (p n m c : ℕ) (r : Result A Mark) (key key' : List ℕ) (f f' : Flow) : Type 0 where
   pub refreshed : Refreshed (residue_rule p) m r (shares_of n m key c) (shares_of n m key' c) f f'
   pub others : (k : ℕ) → k ≢ c → shares_of n m key' k ≡ shares_of n m key k
-
-pub step_as : {A : Type 0} {p p' n n' m c : ℕ} {r : Result A Mark} {key key' : List ℕ} {f f' : Flow} → p ≡ p' → n ≡ n' → Step p n m c r key key' f f' → Step p' n' m c r key key' f f'
-step_as {m = m} {c = c} {r = r} {key = key} {key' = key'} {f = f} {f' = f'} e d h = subst₂ (λ (p n : ℕ). Step p n m c r key key' f f') e d h
 
 module _ (s : Params) (m : ℕ) (key₀ : List ℕ) (f₀ : Flow) where
   abbrev u : Rule

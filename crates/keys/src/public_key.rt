@@ -1,26 +1,20 @@
 // The public key of a secret: t = a·s1 + s2.
-ghost use Rattle.std.specs.Prelude.{◌≡◌, ◌*◌, map, length, take, replicate};
+ghost use Rattle.std.specs.Prelude.{◌≡◌, ◌*◌, map, length, take};
 ghost use Rattle.keys.specs.Load.{public_key};
 ghost use Rattle.ring.specs.Ring.{Residues, residue};
 
 use crate::sharing::secret_residue;
 use params::ParamSet;
 use polys::multiply_add;
-use ring::Multiply;
-
-fn zeros<const K: usize>() -> [u32; K]
-    ensures { result ≡ replicate K 0 }
-{
-    [0; K]
-}
+use ring::{Multiply, Poly};
 
 // The residues of the secret.
 fn read_secret<S: ParamSet>(out: &mut [u32], secret: &[i8])
     requires { length out.old ≡ length secret.now }
     ensures { out.new ≡ map (residue S.params.p) secret.now }
 {
-    'coefficients: for i in 0..out.len() {
-        out[i] = secret_residue::<S>(secret[i]);
+    'coefficients: for (i, residue) in out.iter_mut().enumerate() {
+        *residue = secret_residue::<S>(secret[i]);
     }
 }
 
@@ -32,12 +26,13 @@ pub fn publish<S: ParamSet, M: Multiply<S>>(secret: &[i8], public: &mut [u32])
     ensures { public.new ≡ public_key S.params secret.now public.old }
 {
     let n = S::degree();
-    let mut secret_room = zeros::<2048>();
-    let mut t_room = zeros::<1024>();
+    let mut secret_room = [0; 2048];
+    let mut t_room = [0; 1024];
     let residues = &mut secret_room[0..2 * n];
     let t = &mut t_room[0..n];
     read_secret::<S>(residues, secret);
     let (s1, s2) = residues.split_at(n);
-    multiply_add::<S, M>(t, &public[0..n], s1, s2);
+    let a = &public[0..n];
+    multiply_add::<S, M>(t, Poly::new(a), Poly::new(s1), Poly::new(s2));
     public[n..2 * n].copy_from_slice(t);
 }

@@ -9,9 +9,8 @@ ghost use Rattle.shares.specs.Rule.{Within};
 
 use params::ParamSet;
 use polys::{coefficients, gather, scatter};
-use refusal::{Area, Refusal};
-use search::first_at_least;
-use shares::{Residues, refresh};
+use refusal::{Area, Refusal, check_residues};
+use shares::{Residues, Shares, at_share_count, refresh};
 use words::{Mark, Metered, Source};
 
 /// A key area has its size, and each word is a residue.
@@ -21,31 +20,25 @@ pub fn check_key<S: ParamSet>(shares: u8, key: &[u32]) -> Result<(), Refusal>
     if key.len() != 2 * shares as usize * S::degree() {
         return Err(Refusal::AreaSize);
     }
-    match first_at_least(key, S::modulus()) {
-        Some(index) => Err(Refusal::NotResidue {
-            area: Area::Key,
-            index,
-        }),
-        None => Ok(()),
-    }
+    check_residues(Area::Key, key, S::modulus())
 }
 
 // Refreshes the shares of coefficient c.
-fn remask_coefficient<const M: usize, W: Source>(
+fn remask_coefficient<const M: usize, S: ParamSet, W: Source>(
     key: &mut [u32],
-    n: usize,
     c: usize,
-    ring: &Residues,
     masks: &mut W,
 ) -> Result<(), Mark>
-    requires small { (0 < n) × ((n ≤ 1024) × (M ≤ 8)) }
-    requires inside { (c / n + 1) * M * n ≤ length key.old }
-    requires within { Within (residue_rule ring.now.p) (shares_of n M key.old c) }
-    ensures refreshed { Refreshed (residue_rule ring.now.p) M result (shares_of n M key.old c) (shares_of n M key.new c) (W.flow masks.old) (W.flow masks.new) }
-    ensures others { (k : ℕ) → k ≢ c → shares_of n M key.new k ≡ shares_of n M key.old k }
+    requires most { M ≤ 8 }
+    requires sized { length key.old ≡ 2 * M * S.params.n }
+    requires inside { c < 2 * S.params.n }
+    requires within { Within (residue_rule S.params.p) (shares_of S.params.n M key.old c) }
+    ensures refreshed { Refreshed (residue_rule S.params.p) M result (shares_of S.params.n M key.old c) (shares_of S.params.n M key.new c) (W.flow masks.old) (W.flow masks.new) }
+    ensures others { (k : ℕ) → k ≢ c → shares_of S.params.n M key.new k ≡ shares_of S.params.n M key.old k }
 {
-    let mut shares: [u32; M] = gather(key, n, c);
-    let outcome = refresh(ring, &mut shares, masks);
+    let n = S::degree();
+    let mut shares: Shares<M> = gather(key, n, c);
+    let outcome = refresh(&Residues::of::<S>(), &mut shares, masks);
     scatter(shares, key, n, c);
     outcome
 }
@@ -59,10 +52,9 @@ fn remask_key<const M: usize, S: ParamSet, W: Source>(
     requires area { KeyArea S.params M key.old }
     ensures { Remasks S.params M result key.old key.new (W.flow masks.old) (W.flow masks.new) }
 {
-    let n = S::degree();
-    let ring = Residues::of::<S>();
+    // By index, since the shares of one coefficient stand far apart in the area.
     for c in 0..coefficients::<S>() {
-        remask_coefficient::<M, W>(key, n, c, &ring, masks)?;
+        remask_coefficient::<M, S, W>(key, c, masks)?;
     }
     Ok(())
 }
@@ -78,17 +70,7 @@ fn remask_shares<S: ParamSet, W: Source>(
     requires area { KeyArea S.params shares key.old }
     ensures { Remasks S.params shares result key.old key.new (W.flow masks.old) (W.flow masks.new) }
 {
-    match shares {
-        1 => remask_key::<1, S, W>(key, masks),
-        2 => remask_key::<2, S, W>(key, masks),
-        3 => remask_key::<3, S, W>(key, masks),
-        4 => remask_key::<4, S, W>(key, masks),
-        5 => remask_key::<5, S, W>(key, masks),
-        6 => remask_key::<6, S, W>(key, masks),
-        7 => remask_key::<7, S, W>(key, masks),
-        8 => remask_key::<8, S, W>(key, masks),
-        _ => unreachable(),
-    }
+    at_share_count!(shares, remask_key::<_, S, W>(key, masks))
 }
 
 /// Refreshes the shares of each coefficient, those of s1 first, and tells how many words were taken.
@@ -103,10 +85,7 @@ pub fn remask_counted<S: ParamSet, W: Source>(
     ensures remasks { Remasks S.params shares result.0 key.old key.new (W.flow masks.old) (W.flow masks.new) }
     ensures count { result.1 ≡ length (W.flow masks.old).words - length (W.flow masks.new).words }
 {
-    let mut meter = Metered {
-        src: masks,
-        count: 0,
-    };
+    let mut meter = Metered::new(masks);
     let outcome = remask_shares::<S, Metered<W>>(shares, key, &mut meter);
     let count = meter.count();
     (outcome, count)

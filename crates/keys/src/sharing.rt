@@ -9,11 +9,10 @@ ghost use Rattle.words.specs.Spending.{Spends};
 
 use crate::split::split;
 use params::ParamSet;
-use polys::{coefficients, scatter};
-use refusal::{Area, Refusal};
+use polys::scatter;
+use refusal::{Area, Refusal, check_residues};
 use ring::to_residue;
-use search::first_at_least;
-use shares::Residues;
+use shares::{Residues, Shares, at_share_count};
 use words::{Mark, Metered, Source};
 
 fn is_not_ternary(coefficient: i8) -> bool
@@ -26,12 +25,9 @@ fn is_not_ternary(coefficient: i8) -> bool
 fn first_not_ternary(secret: &[i8]) -> Option<usize>
     ensures { result ≡ first_at not_ternary secret.now }
 {
-    'coefficients: for i in 0..secret.len() {
-        if is_not_ternary(secret[i]) {
-            return Some(i);
-        }
-    }
-    None
+    secret
+        .iter()
+        .position(|coefficient| is_not_ternary(*coefficient))
 }
 
 /// The tests of a load.
@@ -50,12 +46,7 @@ pub fn check_load<S: ParamSet>(
     if public.len() != 2 * n || secret.len() != 2 * n || key.len() != 2 * shares as usize * n {
         return Err(Refusal::AreaSize);
     }
-    if let Some(index) = first_at_least(&public[0..n], S::modulus()) {
-        return Err(Refusal::NotResidue {
-            area: Area::Public,
-            index,
-        });
-    }
+    check_residues(Area::Public, &public[0..n], S::modulus())?;
     match first_not_ternary(secret) {
         Some(index) => Err(Refusal::NotTernary { index }),
         None => Ok(()),
@@ -77,23 +68,22 @@ pub fn clear(key: &mut [u32])
 }
 
 // Puts shares of a value into the key area, as coefficient c.
-fn load_coefficient<const M: usize, W: Source>(
+fn load_coefficient<const M: usize, S: ParamSet, W: Source>(
     value: u32,
     key: &mut [u32],
-    n: usize,
     c: usize,
-    ring: &Residues,
     masks: &mut W,
 ) -> Result<(), Mark>
     requires some { 0 < M }
-    requires small { (0 < n) × ((n ≤ 1024) × (M ≤ 8)) }
-    requires inside { (c / n + 1) * M * n ≤ length key.old }
-    requires value { value < ring.now.p }
-    ensures split { Spends ((residue_rule ring.now.p).cost * (M - 1)) result (W.flow masks.old) (W.flow masks.new) (λ _. Splits (residue_rule ring.now.p) M (W.flow masks.old).words value (shares_of n M key.new c)) }
-    ensures others { (k : ℕ) → k ≢ c → shares_of n M key.new k ≡ shares_of n M key.old k }
+    requires most { M ≤ 8 }
+    requires sized { length key.old ≡ 2 * M * S.params.n }
+    requires inside { c < 2 * S.params.n }
+    requires value { value < S.params.p }
+    ensures split { Spends ((residue_rule S.params.p).cost * (M - 1)) result (W.flow masks.old) (W.flow masks.new) (λ _. Splits (residue_rule S.params.p) M (W.flow masks.old).words value (shares_of S.params.n M key.new c)) }
+    ensures others { (k : ℕ) → k ≢ c → shares_of S.params.n M key.new k ≡ shares_of S.params.n M key.old k }
 {
-    let shares: [u32; M] = split(ring, value, masks)?;
-    scatter(shares, key, n, c);
+    let shares: Shares<M> = split(&Residues::of::<S>(), value, masks)?;
+    scatter(shares, key, S::degree(), c);
     Ok(())
 }
 
@@ -109,11 +99,9 @@ fn load_key<const M: usize, S: ParamSet, W: Source>(
     requires sized { length key.old ≡ 2 * M * S.params.n }
     ensures { Spends (load_cost S.params M) result (W.flow masks.old) (W.flow masks.new) (λ _. Holds S.params M secret.now (W.flow masks.old).words key.new) }
 {
-    let n = S::degree();
-    let ring = Residues::of::<S>();
-    for c in 0..coefficients::<S>() {
-        let value = secret_residue::<S>(secret[c]);
-        load_coefficient::<M, W>(value, key, n, c, &ring, masks)?;
+    for (c, coefficient) in secret.iter().enumerate() {
+        let value = secret_residue::<S>(*coefficient);
+        load_coefficient::<M, S, W>(value, key, c, masks)?;
     }
     Ok(())
 }
@@ -131,17 +119,7 @@ fn load_shares<S: ParamSet, W: Source>(
     requires sized { length key.old ≡ 2 * shares * S.params.n }
     ensures { Spends (load_cost S.params shares) result (W.flow masks.old) (W.flow masks.new) (λ _. Holds S.params shares secret.now (W.flow masks.old).words key.new) }
 {
-    match shares {
-        1 => load_key::<1, S, W>(secret, key, masks),
-        2 => load_key::<2, S, W>(secret, key, masks),
-        3 => load_key::<3, S, W>(secret, key, masks),
-        4 => load_key::<4, S, W>(secret, key, masks),
-        5 => load_key::<5, S, W>(secret, key, masks),
-        6 => load_key::<6, S, W>(secret, key, masks),
-        7 => load_key::<7, S, W>(secret, key, masks),
-        8 => load_key::<8, S, W>(secret, key, masks),
-        _ => unreachable(),
-    }
+    at_share_count!(shares, load_key::<_, S, W>(secret, key, masks))
 }
 
 /// Puts shares of each coefficient into the key area, those of s1 first, and tells how many words were taken.
@@ -158,10 +136,7 @@ pub fn load_counted<S: ParamSet, W: Source>(
     ensures holds { Spends (load_cost S.params shares) result.0 (W.flow masks.old) (W.flow masks.new) (λ _. Holds S.params shares secret.now (W.flow masks.old).words key.new) }
     ensures count { result.1 ≡ length (W.flow masks.old).words - length (W.flow masks.new).words }
 {
-    let mut meter = Metered {
-        src: masks,
-        count: 0,
-    };
+    let mut meter = Metered::new(masks);
     let outcome = load_shares::<S, Metered<W>>(shares, secret, key, &mut meter);
     let count = meter.count();
     (outcome, count)

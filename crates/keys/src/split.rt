@@ -1,28 +1,24 @@
 // A value in shares: masks, and the value less their sum.
-ghost use Rattle.std.specs.Prelude.{◌≡◌, ◌-◌, ◌*◌, ◌<◌, ◌≤◌, ◌∷◌};
+ghost use Rattle.std.specs.Prelude.{◌≡◌, ◌-◌, ◌*◌, ◌<◌, ◌≤◌, length};
 ghost use Rattle.keys.specs.Load.{Splits, masks};
 ghost use Rattle.shares.specs.Rule.{Within};
 ghost use Rattle.words.specs.Spending.{Spends};
 
-use shares::{Group, recombine};
+use shares::{Group, Shares, recombine};
 use words::{Mark, Source};
 
-// The unit, and then masks.
-fn draw_masks<const M: usize, G: Group, W: Source>(
+// Masks in each place.
+fn draw_masks<G: Group, W: Source>(
     group: &G,
+    places: &mut [u32],
     source: &mut W,
-) -> Result<[u32; M], Mark>
-    requires some { 0 < M }
-    requires most { M ≤ 8 }
-    ensures { Spends ((G.rule group.now).cost * (M - 1)) result (W.flow source.old) (W.flow source.new) (λ xs. (xs ≡ (G.rule group.now).unit ∷ masks (G.rule group.now) (M - 1) (W.flow source.old).words) × Within (G.rule group.now) xs) }
+) -> Result<(), Mark>
+    ensures { Spends ((G.rule group.now).cost * length places.old) result (W.flow source.old) (W.flow source.new) (λ _. (places.new ≡ masks (G.rule group.now) (length places.old) (W.flow source.old).words) × Within (G.rule group.now) places.new) }
 {
-    let unit = group.unit();
-    let mut shares = [unit; M];
-    for i in 1..M {
-        let mask = group.mask(source)?;
-        shares[i] = mask;
+    for place in places.iter_mut() {
+        *place = group.mask(source)?;
     }
-    Ok(shares)
+    Ok(())
 }
 
 // The value less the sum of the masks.
@@ -39,13 +35,15 @@ pub(crate) fn split<const M: usize, G: Group, W: Source>(
     group: &G,
     value: u32,
     source: &mut W,
-) -> Result<[u32; M], Mark>
+) -> Result<Shares<M>, Mark>
     requires some { 0 < M }
     requires most { M ≤ 8 }
     requires value { value < (G.rule group.now).order }
     ensures { Spends ((G.rule group.now).cost * (M - 1)) result (W.flow source.old) (W.flow source.new) (Splits (G.rule group.now) M (W.flow source.old).words value) }
 {
-    let mut shares: [u32; M] = draw_masks(group, source)?;
+    let mut shares = [group.unit(); M];
+    let all = &mut shares[..];
+    draw_masks(group, &mut all[1..], source)?;
     let sum = recombine(group, shares);
     shares[0] = less(group, value, sum);
     Ok(shares)

@@ -1,25 +1,11 @@
-use Rattle.std.proofs.Common.{◌≡◌, ℕ, ◌*◌, ◌<◌, sym, ap, ◌∙◌, subst₂, arith}
+use Rattle.std.proofs.Common.{◌≡◌, ◌*◌, ◌∙◌, arith}
 use Rattle.std.proofs.lemmas.Result.{err_from_is_err_and}
-use Rattle.shares.specs.Rule.{Within}
-use Rattle.shares.specs.Groups.{residue_rule}
-use Rattle.polys.specs.Area.{shares_of}
 use Rattle.polys.proofs.Places.{polynomial-inside, shares-within}
-use Rattle.keys.proofs.Refreshing.{step_as, going-none, going_more, going-all, going-short}
+use Rattle.keys.proofs.Refreshing.{going-none, going_more, going-all, going-short}
 use Rattle.keys.proofs.remask.remask_key.Goals as goal
 
-pub remask_coefficient-requires : goal.remask_coefficient-requires
-remask_coefficient-requires g c =
-    let s = g.S.ParamSet.params in
-    let n = c.degree-n.ensures in
-    let most = c.requires.most in
-    let least = g.S.ParamSet.sound.n_least in
-    let top = g.S.ParamSet.sound.n_most in
-    let h : c.loop-c.c < 2 * s.n = let t = c.loop-c-test.true in let b = c.coefficients-c-end.ensures in omega arith in
-    record {
-      small = (omega arith, (omega arith, most));
-      inside = polynomial-inside c.degree-n.result g.row.M (omega arith) 2 c.loop-c.c c.loop-c.key (omega arith) (c.loop-c.auto.key ∙ c.requires.area.sized ∙ ap (λ (k : ℕ). 2 * g.row.M * k) (sym n));
-      within = subst₂ (λ (p k : ℕ). Within (residue_rule p) (shares_of k g.row.M c.loop-c.key c.loop-c.c)) (sym c.of-ring.ensures) (sym n) (c.loop-c.invariant.within c.loop-c.c h);
-    }
+pub remask_coefficient-requires-clause-within : goal.remask_coefficient-requires-clause-within
+remask_coefficient-requires-clause-within g c = c.loop-c.invariant.within c.loop-c.c (omega arith)
 
 pub loop-c-init : goal.loop-c-init
 loop-c-init g c =
@@ -30,21 +16,17 @@ loop-c-init g c =
 pub loop-c-preserved : goal.loop-c-preserved
 loop-c-preserved g c =
     let d = c.in_ok-remask_coefficient.ensures in
-    let t = step_as c.of-ring.ensures c.degree-n.ensures record { refreshed = d.refreshed; others = d.others } in
-    going_more g.S.ParamSet.params g.row.M c.args.key.now (g.W.Source.flow c.args.masks.now) t c.loop-c.invariant
+    going_more g.S.ParamSet.params g.row.M c.args.key.now (g.W.Source.flow c.args.masks.now) record { refreshed = d.refreshed; others = d.others } c.loop-c.invariant
 
 pub returns : goal.returns
 returns g c =
     let least = g.S.ParamSet.sound.n_least in
-    let n = c.degree-n.ensures in
     let e : c.loop-c.c ≡ 2 * g.S.ParamSet.params.n = omega arith in
     going-all g.S.ParamSet.params g.row.M c.args.key.now (g.W.Source.flow c.args.masks.now) (omega arith) (c.loop-c.auto.key ∙ c.requires.area.sized) e c.loop-c.invariant
 
 pub returns-in_err-remask_coefficient : goal.returns-in_err-remask_coefficient
 returns-in_err-remask_coefficient g c =
     let d = c.in_err-remask_coefficient.ensures in
-    let t = step_as c.of-ring.ensures c.degree-n.ensures record { refreshed = d.refreshed; others = d.others } in
     let least = g.S.ParamSet.sound.n_least in
-    let n = c.degree-n.ensures in
     let p = err_from_is_err_and c.from_residual.result c.from_residual.ensures.1 in
-    rw (p.1, p.2) (going-short g.S.ParamSet.params g.row.M c.args.key.now (g.W.Source.flow c.args.masks.now) (omega arith) (c.remask_coefficient.auto.key ∙ c.loop-c.auto.key ∙ c.requires.area.sized) (let h = c.loop-c-test.true in let b = c.coefficients-c-end.ensures in omega arith) t c.loop-c.invariant)
+    rw (p.1, p.2) (going-short g.S.ParamSet.params g.row.M c.args.key.now (g.W.Source.flow c.args.masks.now) (omega arith) (c.remask_coefficient.auto.key ∙ c.loop-c.auto.key ∙ c.requires.area.sized) (let h = c.loop-c-test.true in let b = c.coefficients-c-end.ensures in omega arith) record { refreshed = d.refreshed; others = d.others } c.loop-c.invariant)

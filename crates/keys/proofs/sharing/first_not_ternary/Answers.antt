@@ -1,18 +1,12 @@
-use Rattle.std.proofs.Common.{get_or, pos, sym, ap, ◌∙◌, arith, w8, SFits, rules}
-use Rattle.std.proofs.lemmas.Int.{to_z-of_z}
-use Rattle.search.proofs.Searching.{hit-here, miss-here, none_left}
+use Rattle.std.proofs.Common.{◌∙◌, rules, tests}
+use Rattle.std.proofs.lemmas.Iterator.{YieldsList-from_slice}
+use Rattle.std.proofs.lemmas.Iterator.Search.{position_from_yields_List}
+use Rattle.search.proofs.Searching.{position-first}
 use Rattle.keys.specs.Load.{not_ternary}
 use Rattle.keys.proofs.sharing.first_not_ternary.Goals as goal
 
-pub coefficients-preserved : goal.coefficients-preserved
-coefficients-preserved c =
-    let fits : SFits w8 (get_or c.args.secret.now c.coefficients.i (pos 0)) = search rules in
-    sym (miss-here (pos 0) not_ternary c.args.secret.now c.coefficients.i (omega arith) (ap not_ternary (sym (to_z-of_z w8 _ fits)) ∙ sym c.if-is_not_ternary.ensures)) ∙ c.coefficients.invariant
-
-pub returns-then-is_not_ternary : goal.returns-then-is_not_ternary
-returns-then-is_not_ternary c =
-    let fits : SFits w8 (get_or c.args.secret.now c.coefficients.i (pos 0)) = search rules in
-    sym (hit-here (pos 0) not_ternary c.args.secret.now c.coefficients.i (omega arith) (ap not_ternary (sym (to_z-of_z w8 _ fits)) ∙ sym c.if-is_not_ternary.ensures)) ∙ c.coefficients.invariant
-
 pub returns : goal.returns
-returns c = sym (none_left (pos 0) not_ternary c.args.secret.now c.coefficients.i (omega arith)) ∙ c.coefficients.invariant
+returns c =
+    let secret = c.args.secret.now in
+    position_from_yields_List not_ternary _ _ _ c.position.ensures.ran (YieldsList-from_slice secret cc) (λ x b q k. search (rules, tests))
+    ∙ position-first not_ternary secret
