@@ -48,7 +48,7 @@ fn absorb_residues(hasher: &mut Shake256, r: &[u32])
     }
 }
 
-// Whether no word has set a coefficient yet.
+// Whether no word has set a coefficient yet. It has a name of its own by which the loop's proof cites the test.
 fn is_free(coefficient: u32) -> bool
     ensures { result ≡ (coefficient == 0) }
 {
@@ -61,7 +61,7 @@ fn fill_from<S: ParamSet>(c: &mut [u32], words: &mut Squeezer)
     ensures { (m : List ℕ) → Reading m 0 words.old → c.new ≡ filled S.params S.params.alpha (stream m) c.old }
 {
     let mut wanted = S::weight();
-    'words: for _j in 0..512u32 {
+    'words: for _ in 0..512u32 {
         if wanted == 0 {
             break;
         }

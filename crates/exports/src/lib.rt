@@ -1,24 +1,25 @@
 // What programs in other languages may link, for the set that cards in the field use. Nothing is asked of a caller: what cannot be taken is refused.
 #![tactic(auto)]
 
-ghost use Rattle.std.specs.Prelude.{◌≡◌, ◌<◌, T, length};
+ghost use Rattle.std.specs.Prelude.{◌≡◌, true, false, MatchOption, length};
 ghost use Rattle.exports.specs.Exports.{is_polynomial, product_left, product_status, last_counter, check_status};
 ghost use Rattle.params.specs.Params.{set_i};
-ghost use Rattle.ring.specs.Laws.{Proper};
 ghost use Rattle.shake.specs.Sponge.{shake256};
 ghost use Rattle.till.specs.Verdict.{verdict};
 
 use params::{ParamSet, SetI};
-use ring::{LongProduct, Multiply};
+use ring::{LongProduct, Multiply, Poly};
 use search::first_at_least;
 use till::Till;
 
-// Whether words are the coefficients of a polynomial.
-fn is_polynomial(words: &[u32]) -> bool
-    ensures value { result ≡ is_polynomial words.now }
-    ensures proper { T result → Proper 512 8383489 words.now }
+// Words as a polynomial, if they are the coefficients of one.
+fn polynomial(words: &[u32]) -> Option<Poly<'_, SetI>>
+    ensures { MatchOption result (is_polynomial words.now ≡ false) (λ lent. (is_polynomial words.now ≡ true) × (lent.words.now ≡ words.now)) }
 {
-    words.len() == SetI::degree() && first_at_least(words, SetI::modulus()).is_none()
+    if words.len() != SetI::degree() || first_at_least(words, SetI::modulus()).is_some() {
+        return None;
+    }
+    Some(Poly::new(words))
 }
 
 // The product of two polynomials. The answer is 0; or 1 where an area has another size or holds a word that is no residue, and `out` is then as it was.
@@ -27,10 +28,13 @@ pub extern "C" fn cavrudez_product(out: &mut [u32], a: &[u32], b: &[u32]) -> u8
     ensures status { result ≡ product_status out.old a.now b.now }
     ensures after { out.new ≡ product_left out.old a.now b.now }
 {
-    if out.len() != SetI::degree() || !is_polynomial(a) || !is_polynomial(b) {
+    let (Some(a), Some(b)) = (polynomial(a), polynomial(b)) else {
+        return 1;
+    };
+    if out.len() != SetI::degree() {
         return 1;
     }
-    <LongProduct as Multiply<SetI>>::multiply(out, a, b);
+    LongProduct::multiply(out, a, b);
     0
 }
 
@@ -38,11 +42,7 @@ pub extern "C" fn cavrudez_product(out: &mut [u32], a: &[u32], b: &[u32]) -> u8
 fn last_counter(number: u32) -> Option<u16>
     ensures { result ≡ last_counter number }
 {
-    if number < 65536 {
-        Some(number as u16)
-    } else {
-        None
-    }
+    u16::try_from(number).ok()
 }
 
 // A till's check of one record: 0 where it is accepted, or the refusal's number. A last counter of 65536 or more means that there is none.

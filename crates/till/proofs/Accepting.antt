@@ -7,6 +7,7 @@ use Rattle.std.specs.Str.{bytes_eq}
 use Rattle.params.proofs.Facts.{n_quarters}
 use Rattle.params.specs.Params.{Params, Sound}
 use Rattle.record.proofs.Fields.{length_z, length_unpacked}
+use Rattle.record.proofs.Hits.{no_index}
 use Rattle.record.specs.Layout.{size, num2, num4, digest_part, z_part, c_part, z_of, unpacked, decode}
 use Rattle.refusal.specs.Tests.{unless, at_index, first_hit}
 use Rattle.record.specs.Reading.{far, kind_test, reach_test, code_test, record_tests}
@@ -16,7 +17,7 @@ use Rattle.refusal.specs.declared.Refusal.{Refusal}
 use Rattle.refusal.specs.declared.Refusal.TheVariants.{AreaSize, NotResidue, RecordSize, Kind, OutOfReach, UnusedCode, OtherChallenge, Stale}
 use Rattle.refusal.specs.declared.Area.TheVariants.{Public}
 use Rattle.search.proofs.Searching.{none_hits, all-miss}
-use Rattle.till.proofs.Hits.{hit_first, hit_later, none_first, none_later, both_pass, passed_true, true_passes, no_index}
+use Rattle.till.proofs.Hits.{hit_first, hit_later, none_first, none_later, both_pass, passed_true, true_passes}
 use Rattle.till.specs.Verdict.{Accepts, above, answer, challenge_test, last_after, counter_test, payment, size_test, tests, verdict, word_test}
 use Rattle.till.specs.Verification.{content, expected}
 use Rattle.till.specs.declared.payment.Payment.{Payment}

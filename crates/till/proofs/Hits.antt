@@ -1,7 +1,7 @@
 -- Tests in a row: which hits first, and what it means that none does.
 use Rattle.std.proofs.Common.{◌≡◌, ℕ, Bool, true, false, List, [], ◌∷◌, ◌++◌, Some, None, Option, refl, ap, ◌∙◌, arith}
 use Rattle.refusal.specs.declared.Refusal.{Refusal}
-use Rattle.refusal.specs.Tests.{unless, at_index, first_hit}
+use Rattle.refusal.specs.Tests.{unless, first_hit}
 
 some_none : {A B : Type 0} (e : A) → ◌≡◌ {A = Option A} (Some e) None → B
 some_none e h = absurd (let z : ◌≡◌ {A = ℕ} 0 1 = cc in omega arith)
@@ -33,7 +33,3 @@ passed_true false e h = some_none e h
 
 pub true_passes : (b : Bool) (e : Refusal) → b ≡ true → unless b e ≡ None
 true_passes b e h = ap (λ (t : Bool). unless t e) h
-
-pub no_index : (e : ℕ → Refusal) (o : Option ℕ) → at_index e o ≡ None → o ≡ None
-no_index e None h = refl
-no_index e (Some i) h = some_none (e i) h

@@ -10,7 +10,7 @@ use Rattle.shake.specs.Progress.{Reading}
 pub words-preserved : goal.words-preserved
 words-preserved g c m a =
     let s = g.S.ParamSet.params in
-    let j = c.words._j in
+    let j = c.words.counter in
     let before = c.words.invariant m a in
     let read = c.next_u16.ensures m (2 * j) before.0 in
     let P : ℕ → Type 0 = λ i. Reading m i c.next_u16.new.self in
@@ -34,11 +34,11 @@ words-preserved g c m a =
 pub returns-after-words : goal.returns-after-words
 returns-after-words g c m a =
     let s = g.S.ParamSet.params in
-    sym (all_read s c.words.wanted c.words._j m c.words.c c.words-test.false) ∙ (c.words.invariant m a).1
+    sym (all_read s c.words.wanted c.words.counter m c.words.c c.words-test.false) ∙ (c.words.invariant m a).1
     ∙ ap (λ (k : ℕ). filled s k (stream m) c.args.c.now) c.weight-wanted.ensures
 
 pub returns-then-wanted-eq0 : goal.returns-then-wanted-eq0
 returns-then-wanted-eq0 g c m a =
     let s = g.S.ParamSet.params in
-    sym (all_found s c.words.wanted (drop c.words._j (stream m)) c.words.c c.if-wanted-eq0.true) ∙ (c.words.invariant m a).1
+    sym (all_found s c.words.wanted (drop c.words.counter (stream m)) c.words.c c.if-wanted-eq0.true) ∙ (c.words.invariant m a).1
     ∙ ap (λ (k : ℕ). filled s k (stream m) c.args.c.now) c.weight-wanted.ensures

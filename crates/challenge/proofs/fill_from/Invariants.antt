@@ -7,4 +7,4 @@ abbrev pub invariant-words : goal.invariant-words
 invariant-words g l =
     let s = g.S.ParamSet.params in
     (m : List ℕ) → Reading m 0 l.initial.words
-    → Reading m (2 * l._j) l.words × (filled s l.wanted (drop l._j (stream m)) l.c ≡ filled s l.initial.wanted (stream m) l.initial.c)
+    → Reading m (2 * l.counter) l.words × (filled s l.wanted (drop l.counter (stream m)) l.c ≡ filled s l.initial.wanted (stream m) l.initial.c)
