@@ -82,8 +82,9 @@ impl Card {
             counter,
         };
         let guard = Scrub { area: work };
-        let (ending, counts) =
-            sign_counted::<S, P, N, W>(tries, subject, guard.area, record, nonces, masks);
+        let (ending, counts) = sign_counted::<S, P, N, W>(
+            tries, subject, guard.area, record, nonces, masks,
+        );
         ending.map_err(|failure| refusal(failure, counts))?;
         self.counter = counter;
         Ok(Signed { counter, counts })
