@@ -11,8 +11,9 @@ use Rattle.plain.specs.Run.{Attempt, Fate, Key, Outcome, Run, closed, counts_of,
 use Rattle.plain.proofs.Accounting.{signing_accounts}
 use Rattle.attempt.specs.Attempt.{key_in, subject_of}
 use Rattle.attempt.specs.Stages.{outcome_of}
-use Rattle.attempt.specs.declared.stopped.Stopped.{Stopped}
-use Rattle.attempt.specs.declared.stopped.Stopped.TheVariants.{Nonces, Masks}
+use Rattle.refusal.specs.declared.fault.Fault.{Fault}
+use Rattle.steps.specs.declared.Ended.{Ended}
+use Rattle.steps.specs.declared.Ended.TheVariants.{Nonces, Masks}
 use Rattle.signing.specs.declared.failure.Failure.{Failure}
 use Rattle.signing.specs.declared.failure.Failure.TheVariants.{Halted, TriesFailed as FailedTries}
 use Rattle.signing.specs.Signing.{Follows, plain_run}
@@ -35,7 +36,7 @@ failed_as s tries FailedTries bytes bytes' n n' f f' m r h = (h.ends.0, h.ends.1
 unsigned : (s : Params) (x : Failure) (counter : ℕ) (bytes : List ℕ) → (counter_after (outcome_in x) counter ≡ counter) × (record_after s (outcome_in x) bytes ≡ bytes)
 unsigned s (Halted t) counter bytes = unsigned-stop t
   where
-    unsigned-stop : (t : Stopped) → (counter_after (outcome_of t) counter ≡ counter) × (record_after s (outcome_of t) bytes ≡ bytes)
+    unsigned-stop : (t : Ended Fault) → (counter_after (outcome_of t) counter ≡ counter) × (record_after s (outcome_of t) bytes ≡ bytes)
     unsigned-stop (Nonces fault) = (refl, refl)
     unsigned-stop (Masks fault) = (refl, refl)
 unsigned s FailedTries counter bytes = (refl, refl)

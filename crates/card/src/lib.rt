@@ -63,9 +63,8 @@ impl Card {
         ensures residues { Residues S.params.p key.old → Residues S.params.p key.new }
     {
         check_key::<S>(self.shares, key)?;
-        match remask_counted::<S, W>(self.shares, key, masks) {
-            (Ok(()), count) => Ok(count),
-            (Err(mark), _) => Err(Refusal::MasksEnded { mark }),
-        }
+        let (ending, count) = remask_counted::<S, W>(self.shares, key, masks);
+        ending.map_err(|mark| Refusal::MasksEnded { mark })?;
+        Ok(count)
     }
 }

@@ -6,55 +6,12 @@ ghost use Rattle.refusal.specs.Tests.{first_hit};
 
 use crate::scrub::Scrub;
 use crate::state::{Card, Signed};
-use attempt::Stopped;
+use attempt::{Stopped, Subject};
 use params::ParamSet;
-use refusal::{Area, Counts, Refusal};
-use ring::Multiply;
-use search::first_at_least;
+use refusal::{Area, Counts, Refusal, check_residues};
+use ring::{Multiply, Poly};
 use signing::{Failure, sign_counted};
 use words::Source;
-
-// The tests of a sign.
-fn check_sign<S: ParamSet>(
-    shares: u8,
-    counter: u16,
-    tries: u32,
-    key: &[u32],
-    public: &[u32],
-    work: &[u32],
-    record: &[u8],
-) -> Result<(), Refusal>
-    ensures { TestsSign S.params shares counter tries key.now public.now work.now «record».now result }
-{
-    let n = S::degree();
-    let rows = shares as usize * n;
-    if public.len() != 2 * n
-        || key.len() != 2 * rows
-        || work.len() != 6 * rows
-        || record.len() != record::size::<S>()
-    {
-        return Err(Refusal::AreaSize);
-    }
-    if let Some(index) = first_at_least(public, S::modulus()) {
-        return Err(Refusal::NotResidue {
-            area: Area::Public,
-            index,
-        });
-    }
-    if let Some(index) = first_at_least(key, S::modulus()) {
-        return Err(Refusal::NotResidue {
-            area: Area::Key,
-            index,
-        });
-    }
-    if tries < 1 || tries > 255 {
-        return Err(Refusal::Tries);
-    }
-    if counter == u16::MAX {
-        return Err(Refusal::CounterEnd);
-    }
-    Ok(())
-}
 
 // The refusal of a signing that gave no record.
 fn refusal(failure: Failure, counts: Counts) -> Refusal
@@ -68,6 +25,37 @@ fn refusal(failure: Failure, counts: Counts) -> Refusal
 }
 
 impl Card {
+    // The tests of a sign.
+    fn check_sign<S: ParamSet>(
+        &self,
+        tries: u32,
+        key: &[u32],
+        public: &[u32],
+        work: &[u32],
+        record: &[u8],
+    ) -> Result<(), Refusal>
+        ensures { TestsSign S.params self.now.shares self.now.counter tries key.now public.now work.now «record».now result }
+    {
+        let n = S::degree();
+        let rows = self.shares as usize * n;
+        if public.len() != 2 * n
+            || key.len() != 2 * rows
+            || work.len() != 6 * rows
+            || record.len() != record::size::<S>()
+        {
+            return Err(Refusal::AreaSize);
+        }
+        check_residues(Area::Public, public, S::modulus())?;
+        check_residues(Area::Key, key, S::modulus())?;
+        if tries < 1 || tries > 255 {
+            return Err(Refusal::Tries);
+        }
+        if self.counter == u16::MAX {
+            return Err(Refusal::CounterEnd);
+        }
+        Ok(())
+    }
+
     /// Signs a digest within so many tries, and writes the record into the area lent for it.
     pub fn sign<S: ParamSet, P: Multiply<S>, N: Source, W: Source>(
         &mut self,
@@ -84,27 +72,21 @@ impl Card {
         ensures shares { self.new.shares ≡ self.old.shares }
         ensures digest { length digest.now ≡ 32 }
     {
-        check_sign::<S>(self.shares, self.counter, tries, key, public, work, record)?;
+        self.check_sign::<S>(tries, key, public, work, record)?;
         let counter = self.counter + 1;
-        let guard = Scrub { area: work };
-        let (ending, counts) = sign_counted::<S, P, N, W>(
-            self.shares,
-            tries,
+        let subject = Subject {
+            shares: self.shares,
             key,
-            &public[0..S::degree()],
+            a: Poly::new(&public[0..S::degree()]),
             digest,
             counter,
-            guard.area,
-            record,
-            nonces,
-            masks,
+        };
+        let guard = Scrub { area: work };
+        let (ending, counts) = sign_counted::<S, P, N, W>(
+            tries, subject, guard.area, record, nonces, masks,
         );
-        match ending {
-            Ok(_) => {
-                self.counter = counter;
-                Ok(Signed { counter, counts })
-            }
-            Err(failure) => Err(refusal(failure, counts)),
-        }
+        ending.map_err(|failure| refusal(failure, counts))?;
+        self.counter = counter;
+        Ok(Signed { counter, counts })
     }
 }

@@ -60,14 +60,8 @@ pub fn sign_counted<S: ParamSet, P: Multiply<S>, N: Source, W: Source>(
     ensures follows { Follows S.params subject.entry.shares tries result.0 «record».old «record».new (N.flow nonces.old) (N.flow nonces.new) (W.flow masks.old) (W.flow masks.new) (plain_run S.params subject.entry.shares (subject_of S.params subject.entry.shares subject.entry.a.words.now subject.entry.key.now subject.entry.digest.now subject.entry.counter) tries (N.flow nonces.old) (W.flow masks.old)) }
     ensures counts { result.1 ≡ counts_of (plain_run S.params subject.entry.shares (subject_of S.params subject.entry.shares subject.entry.a.words.now subject.entry.key.now subject.entry.digest.now subject.entry.counter) tries (N.flow nonces.old) (W.flow masks.old)) }
 {
-    let mut nonce_meter = Metered {
-        src: nonces,
-        count: 0,
-    };
-    let mut mask_meter = Metered {
-        src: masks,
-        count: 0,
-    };
+    let mut nonce_meter = Metered::new(nonces);
+    let mut mask_meter = Metered::new(masks);
     let ending = sign_shares::<S, P, Metered<N>, Metered<W>>(
         tries,
         subject,
