@@ -42,6 +42,7 @@ pub trait Entry: Sized {
     ghost solid: { (word : List ℕ) (x : Self) → writes word x → LacksByte 32 word };
 }
 
+// One impl for each width: a macro's impl has no ghost member.
 impl Entry for u8 {
     ghost writes = { Number 255 };
 
