@@ -1,9 +1,7 @@
 // Hexadecimal digits, two to a byte.
-ghost use Rattle.std.specs.Prelude.{◌≡◌, ℕ, ◌<◌, false, List, length, is_some, IfSome};
+ghost use Rattle.std.specs.Prelude.{◌≡◌, ℕ, false, List, length, is_some, IfSome};
 ghost use Rattle.script.specs.Answers.{Reads};
 ghost use Rattle.script.specs.Words.{Pair, Spells};
-ghost use Rattle.std.specs.Option.{SomeIff};
-ghost use Rattle.std.specs.Char.{digit_value};
 
 use crate::unread::Unread;
 use std::alloc::Global;
