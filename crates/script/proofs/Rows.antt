@@ -1,5 +1,5 @@
 -- A text that is read word by word, the words parted by one space.
-use Rattle.std.proofs.Common.{◌≡◌, ℕ, suc, List, [], ◌∷◌, ◌++◌, Err, sym, refl, subst, append_assoc, arith}
+use Rattle.std.proofs.Common.{◌≡◌, ◌∙◌, ◌⊎◌, ⊎_elim, Bool, true, false, ℕ, suc, List, [], ◌∷◌, ◌++◌, Err, sym, refl, subst, append_assoc, arith}
 use Rattle.std.specs.Str.Iter.{LacksByte}
 use Rattle.script.specs.Answers.{Reads}
 use Rattle.script.specs.Words.{Writes}
@@ -80,6 +80,34 @@ no_last write text rest done o lacks none values h =
     let m = o.only values h in
     let w = last_word write rest m.0 lacks m.1 in
     none w.0 w.1
+
+-- the same, where the text may have ended: then the values are all
+pub record Along {A : Type 0} (write : List ℕ → A → Type 0) (text : List ℕ) (more : Bool) (rest : List ℕ) (done : List A) : Type 0 where
+  pub on : more ≡ true → Onward write text rest done
+  pub over : more ≡ false → Writes write text done
+
+-- a word that was cut off: the last one, or what is left begins behind the space after it
+abbrev pub Cut : (rest word : List ℕ) → Bool → List ℕ → Type 0
+Cut rest word more rest' = LacksByte 32 word × (((word ≡ rest) × (more ≡ false)) ⊎ ((more ≡ true) × (rest ≡ word ++ (32 ∷ rest'))))
+
+not_both : (b : Bool) → b ≡ true → b ≡ false → ⊥
+not_both b p q = let z : true ≡ false = sym p ∙ q in absurd cc
+
+pub along_start : {A : Type 0} (write : List ℕ → A → Type 0) (text rest : List ℕ) (more : Bool) (done : List A) → more ≡ true → rest ≡ text → done ≡ [] → Along write text more rest done
+along_start write text rest more done live same empty = record { on = λ m. rw (same, empty) (onward_none write text); over = λ m. absurd (not_both more live m) }
+
+module _ {A : Type 0} (write : List ℕ → A → Type 0) (solid : (word : List ℕ) (x : A) → write word x → LacksByte 32 word) (text rest word rest' : List ℕ) (more : Bool) (done : List A) (o : Onward write text rest done) (cut : Cut rest word more rest') where
+  pub along-more : (v : A) → write word v → Along write text more rest' (done ++ (v ∷ []))
+  along-more v p =
+      ⊎_elim (λ last. record { on = λ m. absurd (not_both more m last.1); over = λ m. onward_all write text rest done v o (subst (λ (t : List ℕ). write t v) last.0 p) })
+      (λ next. record { on = λ m. onward-more write solid text rest word rest' done v o next.1 cut.0 p; over = λ m. absurd (not_both more next.0 m) })
+      cut.1
+
+  pub no_part : ((x : A) → write word x → ⊥) → (values : List A) → Writes write text values → ⊥
+  no_part none values h =
+      ⊎_elim (λ last. no_last write text rest done o (subst (LacksByte 32) last.0 cut.0) (λ x w. none x (subst (λ (t : List ℕ). write t x) (sym last.0) w)) values h)
+      (λ next. no_word write solid text rest word rest' done o next.1 cut.0 none values h)
+      cut.1
 
 -- what a reader passes on of another's refusal, whatever was to be read
 pub reads_err : (Q Q' : Type 0) (e : Unread) → (Q → Q') → Reads {A = Unit {0}} (λ _. Unit {0}) Q (Err e) → Reads {A = Unit {0}} (λ _. Unit {0}) Q' (Err e)

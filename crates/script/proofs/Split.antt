@@ -1,17 +1,23 @@
--- A text that was split at its first space.
-use Rattle.std.proofs.Common.{◌≡◌, ℕ, List, ◌∷◌, ◌++◌, Some, None, Option, sym, refl, append_assoc, lit<, Bor}
-use Rattle.std.proofs.lemmas.Str.Pattern.{IsSplitOnceResult, split_parts}
-use Rattle.std.specs.Str.Iter.{LacksByte}
+-- A text that is split at its spaces.
+use Rattle.std.proofs.Common.{◌≡◌, ℕ, ◌<◌, Bool, true, false, inl, inr, List, ◌∷◌, ◌++◌, take, drop, Some, None, Option, MatchOption, sym, ap, ◌∙◌, refl, append_assoc, lit<, Bor, arith}
+use Rattle.std.proofs.lemmas.Str.Pattern.{NoCharPasses-char, drop_at_char}
+use Rattle.std.specs.Str.Pattern.{FindsChar, IsSplitAtFirstMatch}
+use Rattle.std.proofs.Math.ListN.{take-append-drop}
+use Rattle.script.proofs.Rows.{Cut}
 use Rattle.script.specs.Lines.{spaced}
 
-pub split_space : (text : List ℕ) (word rest : Bor (List ℕ)) → IsSplitOnceResult 32 text (Some (word, rest)) → text ≡ word.now ++ (32 ∷ rest.now)
-split_space text word rest h = (split_parts 32 text (Some (word, rest)) h (lit< tt)).0
+-- a word of a text that is split at its spaces
+first_part : (text word rest : List ℕ) (more : Bool) (o : Option (ℕ × ℕ)) → FindsChar 32 text o → MatchOption o ((word ≡ text) × (more ≡ false)) (λ q. 0 < q.1 → (word ≡ take q.0 text) × (more ≡ true) × (rest ≡ drop q.1 text)) → Cut text word more rest
+first_part text word rest more None f m = (rw m.0 (λ k h. NoCharPasses-char 32 text k f (lit< tt) h), inl m)
+first_part text word rest more (Some (i, j)) f m =
+    let ends = f.1.ends in
+    let cut = m (omega arith) in
+    let at = drop_at_char 32 text i j f.1 (lit< tt) in
+    let e : text ≡ take i text ++ (32 ∷ drop j text) = sym (take-append-drop i text) ∙ ap (λ (l : List ℕ). take i text ++ l) at in
+    (rw cut.0 (λ k h. NoCharPasses-char 32 (take i text) k f.0 (lit< tt) h), inr (cut.1, rw (cut.0, cut.2) e))
 
-pub split_first : (text : List ℕ) (word rest : Bor (List ℕ)) → IsSplitOnceResult 32 text (Some (word, rest)) → LacksByte 32 word.now
-split_first text word rest h = (split_parts 32 text (Some (word, rest)) h (lit< tt)).1
-
-pub split_none : (text : List ℕ) → IsSplitOnceResult 32 text None → LacksByte 32 text
-split_none text h = split_parts 32 text None h (lit< tt)
+pub part : (text word rest : List ℕ) (more : Bool) → IsSplitAtFirstMatch (FindsChar 32) text word more rest → Cut text word more rest
+part text word rest more h = first_part text word rest more h.1.0 h.1.1 h.1.2
 
 -- a line behind a name
 pub spaced_under : (name word : List ℕ) (rest : Option (Bor (List ℕ))) → name ++ (32 ∷ spaced word rest) ≡ spaced (name ++ (32 ∷ word)) rest

@@ -42,6 +42,7 @@ pub trait Entry: Sized {
     ghost solid: { (word : List ℕ) (x : Self) → writes word x → LacksByte 32 word };
 }
 
+// One impl for each width: a macro's impl has no ghost member.
 impl Entry for u8 {
     ghost writes = { Number 255 };
 
@@ -109,11 +110,8 @@ pub fn numbers<T: Entry + Drop>(heap: Global, text: &str) -> Result<Vec<T>, Unre
     ensures { Reads (λ v. Writes T.Entry.writes text.now v.items) ((values : List T) → Writes T.Entry.writes text.now values → ⊥) result }
 {
     let mut values = Vec::new(heap);
-    let mut rest = text;
-    'words: while let Some((word, more)) = rest.split_once(' ') {
+    'words: for word in text.split(' ') {
         values.push(T::read(word)?)?;
-        rest = more;
     }
-    values.push(T::read(rest)?)?;
     Ok(values)
 }

@@ -1,31 +1,19 @@
 // Hexadecimal digits, two to a byte.
-ghost use Rattle.std.specs.Prelude.{◌≡◌, ℕ, ◌<◌, false, List, length, is_some, IfSome};
+ghost use Rattle.std.specs.Prelude.{◌≡◌, ℕ, false, List, length, is_some, IfSome};
 ghost use Rattle.script.specs.Answers.{Reads};
 ghost use Rattle.script.specs.Words.{Pair, Spells};
-ghost use Rattle.std.specs.Option.{SomeIff};
-ghost use Rattle.std.specs.Char.{digit_value};
 
 use crate::unread::Unread;
 use std::alloc::Global;
 
-// The value of a digit, in either case.
-fn digit(byte: u8) -> Option<u8>
-    ensures { SomeIff result (digit_value byte < 16) (digit_value byte) }
-{
-    match byte {
-        b'0'..=b'9' => Some(byte - b'0'),
-        b'a'..=b'f' => Some(byte - b'a' + 10),
-        b'A'..=b'F' => Some(byte - b'A' + 10),
-        _ => None,
-    }
-}
-
-// The byte that two digits spell.
+// The byte that two digits spell, in either case.
 fn pair(high: u8, low: u8) -> Option<u8>
     ensures value { IfSome result (λ byte. Pair high low byte) }
     ensures none { is_some result ≡ false → (byte : ℕ) → Pair high low byte → ⊥ }
 {
-    Some(16 * digit(high)? + digit(low)?)
+    let high = char::from(high).to_digit(16)?;
+    let low = char::from(low).to_digit(16)?;
+    Some((16 * high + low) as u8)
 }
 
 // The bytes that a word spells.

@@ -1,5 +1,5 @@
 // Words of areas.
-ghost use Rattle.std.specs.Prelude.{◌≡◌, ◌+◌, ◌++◌, length, take, drop, replicate, IfOk, nat_lt, slice_set};
+ghost use Rattle.std.specs.Prelude.{◌≡◌, ◌+◌, ◌++◌, length, take, drop, IfOk, nat_lt, slice_set};
 ghost use Rattle.world.specs.Areas.{lent};
 
 use std::alloc::{AllocError, Global};
@@ -12,7 +12,8 @@ pub(crate) fn lent_size(asked: usize, right: usize) -> usize
     if asked > right { right + 1 } else { asked }
 }
 
-// Writes a word of an area, or says that it has no such word.
+// Writes a word of an area, or says that it has no such word. By its index: of what is written through a slice's `get_mut` a
+// proof knows nothing.
 pub(crate) fn poke(words: &mut [u32], index: usize, value: u32) -> bool
     ensures within { result ≡ nat_lt index (length words.old) }
     ensures after { words.new ≡ slice_set words.old index value }

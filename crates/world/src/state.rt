@@ -33,6 +33,7 @@ impl World {
         in_set!(set, World::start(heap, set))
     }
 
+    // The same, at the type of the set that has this name.
     fn start<S: ParamSet>(heap: Global, set: SetName) -> Result<World, AllocError>
         requires { params_of set ≡ S.params }
         ensures { IfOk result (Fresh set) }
@@ -126,6 +127,7 @@ impl World {
         }
     }
 
+    // Loads a card, lent the public area in one piece.
     fn load_card(&mut self, public: &mut [u32]) -> Result<u64, Refusal>
         ensures loads { Loads (params_of self.old.set) self.old.card public.old result self.new.card public.new }
         ensures rest { self.new ≡ with_card self.old self.new.card }
