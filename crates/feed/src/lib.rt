@@ -17,6 +17,7 @@ use words::{Cutoff, Generator, Mark, OutOfRange, Source, Tape, Watch};
 pub enum Feed {
     Tape(Tape<Vec<u32>>),
     Stretched(Generator),
+    // No Health over a boxed feed: boxes would have to be sources for it, to save the two steps of a draw.
     Checked(Watch, Box<Feed>),
 }
 

@@ -21,7 +21,7 @@ impl Squeezer {
         byte
     }
 
-    // The next N bytes, from their lane at once where they stand in one.
+    // The next N bytes, from their lane at once where they stand in one: byte by byte takes a sixth longer.
     fn next_bytes<const N: usize>(&mut self) -> [u8; N]
         requires { N ≤ 8 }
         ensures { (m : List ℕ) (i : ℕ) → Reading m i self.old → (result ≡ map (shake_byte m) (range_with_len i N)) × Reading m (i + N) self.new }

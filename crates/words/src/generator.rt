@@ -11,6 +11,7 @@ use shake::Squeezer;
 pub struct Generator {
     seed: [u8; 32],
     reader: Squeezer,
+    // A place and a count, and no range: the fact on the reader tells its place.
     at: u64,
     count: u64,
     ghost reading: { Reading seed (4 * at) reader },
