@@ -38,14 +38,17 @@ area_name Key = codes "key"
 abbrev pub counts_text : Counts → List ℕ
 counts_text c = codes "attempts " ++ (decimal c.attempts ++ (codes " candidates " ++ (decimal c.candidates ++ (codes " nonces " ++ (decimal c.nonces ++ (codes " masks " ++ decimal c.masks))))))
 
--- a coefficient: its polynomial, and its index there
+-- a coefficient of a nonce, and the same behind a step's number
+abbrev pub coefficient_told : Coefficient → List ℕ
+coefficient_told at = codes "polynomial " ++ (decimal at.polynomial ++ (codes " coefficient " ++ decimal at.index))
+
 abbrev pub coefficient_text : Coefficient → List ℕ
-coefficient_text at = codes "polynomial " ++ (decimal at.polynomial ++ (codes " coefficient " ++ decimal at.index))
+coefficient_text at = codes " " ++ coefficient_told at
 
 -- a step's number, and for the first two the coefficient that was drawn
 abbrev pub step_text : Step → List ℕ
-step_text (Candidate at) = decimal 1 ++ (codes " " ++ coefficient_text at)
-step_text (Conversion at) = decimal 2 ++ (codes " " ++ coefficient_text at)
+step_text (Candidate at) = decimal 1 ++ coefficient_text at
+step_text (Conversion at) = decimal 2 ++ coefficient_text at
 step_text Commit = decimal 3
 step_text Check = decimal 5
 step_text Open = decimal 6

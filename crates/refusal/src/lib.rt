@@ -1,7 +1,7 @@
 // Why a call was refused: its number, and what it names.
 #![tactic(auto)]
 
-ghost use Rattle.refusal.specs.Told.{number_of, area_name, coefficient_text, counts_text, fault_text, step_text, told};
+ghost use Rattle.refusal.specs.Told.{number_of, area_name, coefficient_told, counts_text, fault_text, step_text, told};
 ghost use Rattle.std.specs.Prelude.{◌≡◌, Some};
 
 pub mod fault;
@@ -107,7 +107,7 @@ impl fmt::Display for Counts {
 }
 
 impl fmt::Display for Coefficient {
-    ghost output = { λ at. Some (coefficient_text at) };
+    ghost output = { λ at. Some (coefficient_told at) };
 
     fn fmt<W: fmt::Write>(&self, f: &mut fmt::Formatter<W>) -> fmt::Result {
         write!(
