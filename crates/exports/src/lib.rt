@@ -1,4 +1,5 @@
 // What programs in other languages may link, for the set that cards in the field use. Nothing is asked of a caller: what cannot be taken is refused.
+// Its answers are numbers and its areas bare slices, as C's are.
 #![tactic(auto)]
 
 ghost use Rattle.std.specs.Prelude.{◌≡◌, true, false, MatchOption, length};

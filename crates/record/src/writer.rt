@@ -43,7 +43,7 @@ fn pack(a: u8, b: u8, c: u8, d: u8) -> u8
     a + 4 * b + 16 * c + 64 * d
 }
 
-// Four coefficients a byte.
+// Four coefficients a byte, by place as above.
 fn write_challenge(part: &mut [u8], c: &[u32])
     requires { length c.now ≡ 4 * length part.old }
     ensures { part.new ≡ packed (map code_of c.now) }

@@ -11,7 +11,8 @@ use record::Record;
 use record::view::codes;
 use ring::{Multiply, Poly, add_assign, sub_assign, to_residue};
 
-// The residues of coefficients that stand in two bytes each.
+// The residues of coefficients that stand in two bytes each. Here and below by place: of a slice that is lent out in parts, as by
+// `zip` or in chunks, nothing is known when the loans end.
 fn read_z<S: ParamSet>(z: &mut [u32], bytes: &[u8])
     requires { length bytes.now ≡ 2 * length z.old }
     ensures value { z.new ≡ map (residue S.params.p) (z_of bytes.now) }
