@@ -8,8 +8,8 @@ ghost use Rattle.record.specs.Writing.{content_of};
 ghost use Rattle.ring.specs.Ring.{Residues, centre, plus, product};
 ghost use Rattle.polys.specs.Area.{recombined, values};
 ghost use Rattle.drawing.specs.Drawing.{halted};
-ghost use Rattle.drawing.specs.Resume.{Subject as Signs};
-ghost use Rattle.attempt.specs.Attempt.{Attempts, subject_of};
+ghost use Rattle.drawing.specs.Resume.{Subject as PlainSubject};
+ghost use Rattle.attempt.specs.Attempt.{Attempts, signs};
 ghost use Rattle.attempt.specs.Stages.{Begins, Closes, Commits, answer_to, attempt_of, commitment_to, outcome_of};
 
 pub mod stage;
@@ -73,7 +73,7 @@ impl Drawn {
         requires some { 0 < M }
         requires most { M ≤ 8 }
         requires sized { length y.old ≡ 2 * M * S.params.n }
-        ensures drawn { (u : Signs) → Begins S.params M u number result (recombined S.params M y.new) (N.flow nonces.old) (N.flow nonces.new) (W.flow masks.old) (W.flow masks.new) }
+        ensures drawn { (u : PlainSubject) → Begins S.params M u number result (recombined S.params M y.new) (N.flow nonces.old) (N.flow nonces.new) (W.flow masks.old) (W.flow masks.new) }
         ensures residues { OnOk result (Residues S.params.p y.new) }
     {
         draw::<M, S, N, W>(y, nonces, masks).map_err(|halt| stop_at(number, halt))?;
@@ -151,7 +151,7 @@ pub fn attempt<const M: usize, S: ParamSet, P: Multiply<S>, N: Source, W: Source
     requires shares { M ≡ subject.shares }
     requires work { length work.old ≡ 6 * M * S.params.n }
     requires record { length «record».old ≡ size S.params }
-    ensures { Attempts S.params M (subject_of S.params M subject.entry.a.words.now subject.entry.key.now subject.entry.digest.now subject.entry.counter) number result «record».old «record».new (N.flow nonces.old) (N.flow nonces.new) (W.flow masks.old) (W.flow masks.new) }
+    ensures { Attempts S.params M (signs S.params M subject.entry) number result «record».old «record».new (N.flow nonces.old) (N.flow nonces.new) (W.flow masks.old) (W.flow masks.new) }
 {
     let n = S::degree();
     let (y, rest) = work.split_at_mut(2 * M * n);
