@@ -30,27 +30,6 @@ pub use stopped::Stopped;
 pub use subject::Subject;
 use words::{Mark, Source};
 
-// Tells an attempt's number with the source that ended in it.
-fn stop_at(number: u32, halt: Halt) -> Stopped
-    ensures outcome { outcome_of result ≡ halted halt number }
-    ensures number { attempt_of result ≡ number }
-{
-    let attempt = number;
-    let step = halt.step;
-    match halt.ended {
-        Ended::Nonces(mark) => Ended::Nonces(Fault {
-            mark,
-            attempt,
-            step,
-        }),
-        Ended::Masks(mark) => Ended::Masks(Fault {
-            mark,
-            attempt,
-            step,
-        }),
-    }
-}
-
 // The masks ended in a step of an attempt.
 fn masks_ended(number: u32, step: Step, mark: Mark) -> Stopped
     ensures { result ≡ Ended.Masks (record { mark = mark; attempt = number; step = step }) }
@@ -60,6 +39,21 @@ fn masks_ended(number: u32, step: Step, mark: Mark) -> Stopped
         attempt: number,
         step,
     })
+}
+
+// Tells an attempt's number with the source that ended in it.
+fn stop_at(number: u32, halt: Halt) -> Stopped
+    ensures outcome { outcome_of result ≡ halted halt number }
+    ensures number { attempt_of result ≡ number }
+{
+    match halt.ended {
+        Ended::Nonces(mark) => Ended::Nonces(Fault {
+            mark,
+            attempt: number,
+            step: halt.step,
+        }),
+        Ended::Masks(mark) => masks_ended(number, halt.step, mark),
+    }
 }
 
 impl Drawn {
@@ -133,6 +127,7 @@ fn write_record<S: ParamSet>(out: &mut [u8], counter: u16, digest: &[u8; 32], z:
     requires c { length c.now ≡ S.params.n }
     ensures { out.new ≡ encode S.params (content_of counter digest.now z.now c.now) }
 {
+    // Every size fits, and nothing else is refused.
     match write::<S>(out, counter, digest, z, c) {
         Ok(()) => {}
         Err(_) => unreachable(),
@@ -140,6 +135,7 @@ fn write_record<S: ParamSet>(out: &mut [u8], counter: u16, digest: &[u8; 32], z:
 }
 
 /// One attempt, from its first draw to its record, which is written if it passes.
+// The areas and the sources are lent one by one: a struct of them would want a clause in each contract that it still lends the same ones.
 pub fn attempt<const M: usize, S: ParamSet, P: Multiply<S>, N: Source, W: Source>(
     number: u32,
     subject: Subject<'_, S>,
