@@ -1,5 +1,5 @@
 -- Where shares stand: no two at one place, and one at each place.
-use Rattle.std.proofs.Common.{◌≡◌, ℕ, zero, suc, ◌+◌, ◌*◌, ◌/◌, ◌%◌, ◌<◌, ◌≤◌, List, length, get_or, sym, ap, ◌∙◌, subst, mul-zero, div-add-mod', arith}
+use Rattle.std.proofs.Common.{◌≡◌, ℕ, zero, suc, ◌+◌, ◌*◌, ◌/◌, ◌%◌, ◌<◌, ◌≤◌, List, length, get_or, sym, ap, ◌∙◌, subst, div-add-mod', arith}
 use Rattle.std.proofs.lemmas.Nat.{mul-le, mul-add-lt, div-mul-add, mod-mul-add, div_below, mod_below}
 use Rattle.std.proofs.lemmas.List.FromFn.{length-map-range_with_len, get_or-map-range_with_len, fill_by_all}
 use Rattle.params.specs.Params.{Params, Sound}
@@ -10,7 +10,7 @@ use Rattle.shares.proofs.Pairs.{recombine-in}
 use Rattle.polys.specs.Area.{place, shares_of, values, recombined}
 
 factor_some : (h m q : ℕ) → q < h * m → 0 < m
-factor_some h zero q l = let e = mul-zero h in absurd (omega arith)
+factor_some h zero q l = absurd (omega arith)
 factor_some h (suc m) q l = omega arith
 
 module _ (n m : ℕ) (some : 0 < n) where
@@ -18,19 +18,9 @@ module _ (n m : ℕ) (some : 0 < n) where
   pub place_inside : (c i : ℕ) → i < m → place n m c i < (c / n + 1) * m * n
   unfolding place
   place_inside c i l =
-      let r = mul-add-lt (c / n) m i (c / n + 1) (omega arith) l in
       let row : c / n * m + i < (c / n + 1) * m = omega arith in
       let t = mul-add-lt (c / n * m + i) n (c % n) ((c / n + 1) * m) row (mod_below c n some) in
       omega arith
-
-  -- the numbers on the way to a place
-  pub place-steps : (c i : ℕ) → i < m → (c / n * m + i < (c / n + 1) * m * n) × ((c / n * m + i) * n < (c / n + 1) * m * n)
-  unfolding place
-  place-steps c i l =
-      let r = mul-add-lt (c / n) m i (c / n + 1) (omega arith) l in
-      let t = mul-le ((c / n + 1) * m) 1 ((c / n + 1) * m) n (omega arith) some in
-      let e = place_inside c i l in
-      (omega arith, omega arith)
 
   -- an area of h polynomials has the polynomial of each of its coefficients
   pub polynomial-inside : (h c : ℕ) (area : List ℕ) → c < h * n → length area ≡ h * m * n → (c / n + 1) * m * n ≤ length area

@@ -1,5 +1,5 @@
 -- The rows of an area, and what a write to one of them leaves.
-use Rattle.std.proofs.Common.{◌≡◌, ℕ, ◌+◌, ◌-◌, ◌*◌, ◌/◌, ◌%◌, ◌<◌, ◌≤◌, List, length, get_or, take, drop, sym, ap, ◌∙◌, subst, add-mul, one-mul, div-add-mod', arith, below_more}
+use Rattle.std.proofs.Common.{◌≡◌, ℕ, ◌+◌, ◌-◌, ◌*◌, ◌/◌, ◌%◌, ◌<◌, ◌≤◌, List, length, get_or, take, drop, sym, ap, ◌∙◌, subst, div-add-mod', arith, below_more}
 use borrow.Rule.Slice.PartMut.{put_mid}
 use Rattle.std.proofs.lemmas.Nat.{mul-le, div_below, mod_below}
 use Rattle.std.proofs.lemmas.List.{length-take-le, length-drop, get_or-take, get_or-drop, drop-take}
@@ -10,13 +10,9 @@ use Rattle.ring.proofs.Polynomials.{plus-residues}
 use Rattle.polys.specs.Area.{row}
 
 module _ (n : ℕ) where
-  -- where a row ends
-  row-end : (j : ℕ) → (j + 1) * n ≡ j * n + n
-  row-end j = add-mul j 1 n ∙ ap (λ (k : ℕ). j * n + k) (one-mul n)
-
   -- a row before the h-th ends before the h-th begins
   pub row_before : (j h : ℕ) → j < h → (j + 1) * n ≤ h * n
-  row_before j h l = mul-le (j + 1) n h n (omega arith) (omega arith)
+  row_before j h l = grind (arith, mul-le)
 
   pub row_at : (j : ℕ) (area : List ℕ) (c : ℕ) → c < n → get_or (row n j area) c 0 ≡ get_or area (j * n + c) 0
   unfolding row
@@ -25,19 +21,17 @@ module _ (n : ℕ) where
   module _ (j : ℕ) (area : List ℕ) (h : (j + 1) * n ≤ length area) where
     pub row-long : length (row n j area) ≡ n
     unfolding row
-    row-long = let e = row-end j in let l = length-drop (j * n) area in length-take-le n (drop (j * n) area) (omega arith)
+    row-long = let l = length-drop (j * n) area in length-take-le n (drop (j * n) area) (omega arith)
 
     pub row-proper : (p : ℕ) (xs : List ℕ) → Residues p area → xs ≡ row n j area → Proper n p xs
     row-proper p xs r is =
         let long = row-long in
-        let e = row-end j in
         subst (Proper n p) (sym is) (long, λ c l. subst (λ (v : ℕ). v < p) (sym (row_at j area c (omega arith))) (r (j * n + c) (omega arith)))
 
     -- a row that was written
     pub row_written : (ys : List ℕ) → length ys ≡ n → row n j (put_mid (j * n) (j * n + n - j * n) area ys) ≡ ys
     unfolding row
     row_written ys l =
-        let e = row-end j in
         let w : n ≡ j * n + n - j * n = omega arith in
         ap (λ (k : ℕ). take k (drop (j * n) (put_mid (j * n) (j * n + n - j * n) area ys))) w
         ∙ between-put_mid (j * n) (j * n + n - j * n) area ys (j * n + n) (omega arith) (omega arith)
@@ -46,8 +40,6 @@ module _ (n : ℕ) where
     pub row_kept : (k w : ℕ) (ys : List ℕ) → k < j → row n k (put_mid (j * n) w area ys) ≡ row n k area
     unfolding row
     row_kept k w ys l =
-        let e = row-end j in
-        let d = row-end k in
         let b = row_before k j l in
         sym (drop-take (k * n) n (put_mid (j * n) w area ys))
         ∙ ap (drop (k * n)) (take-put_mid_below (j * n) w area ys (k * n + n) (omega arith) (omega arith))

@@ -1,5 +1,5 @@
 -- The values of a polynomial in shares are the sum of its rows, and a map that keeps sums goes through it.
-use Rattle.std.proofs.Common.{◌≡◌, ℕ, zero, suc, ◌+◌, ◌*◌, ◌%◌, ◌<◌, ◌≤◌, List, ◌++◌, map, length, get_or, take, drop, replicate, sym, refl, ap, ◌∙◌, subst, ap₂, one-mul, zero-mul, arith}
+use Rattle.std.proofs.Common.{◌≡◌, ℕ, zero, suc, ◌+◌, ◌*◌, ◌%◌, ◌<◌, ◌≤◌, List, ◌++◌, map, length, get_or, take, drop, replicate, sym, refl, ap, ◌∙◌, ap₂, arith}
 use native.Mathlib.Nat.{zero-mod}
 use lib.ListN.{length-replicate}
 use Rattle.std.specs.List.{range_with_len as counting}
@@ -7,7 +7,6 @@ use Rattle.std.proofs.lemmas.Nat.{mul-le, div-mul-add, mod-mul-add}
 use Rattle.std.proofs.lemmas.List.{ext_get_or, get_or-drop, get_or-replicate, length-drop, take-append-drop}
 use Rattle.std.proofs.lemmas.List.FromFn.{length-map-range_with_len, get_or-map-range_with_len, take-map-range_with_len}
 use Rattle.params.specs.Params.{Params}
-use Rattle.words.proofs.Spendings.{times_more}
 use Rattle.shares.specs.Rule.{recombine}
 use Rattle.shares.specs.Groups.{residue_rule}
 use Rattle.ring.specs.Laws.{Proper}
@@ -100,7 +99,6 @@ module _ (p n : ℕ) where
   module _ (m h : ℕ) (area : List ℕ) (inside : (h + 1) * m * n ≤ length area) where
     row_inside : (k : ℕ) → k < h * m + m → (k + 1) * n ≤ length area
     row_inside k l =
-        let e = times_more h m in
         let t = mul-le (k + 1) n ((h + 1) * m) n (omega arith) (omega arith) in
         omega arith
 
@@ -154,14 +152,12 @@ module _ (s : Params) (m : ℕ) (area : List ℕ) where
   -- the first polynomial
   pub values-sum : m * n ≤ length area → values s m n area ≡ total p n f 0 m
   unfolding values
-  values-sum h = polynomial-sum p n m 0 area (let e : (0 + 1) * m ≡ m = one-mul m in subst (λ (k : ℕ). k * n ≤ length area) (sym e) h) 0 0 (sym (zero-mul n)) (sym (zero-mul m))
+  values-sum h = polynomial-sum p n m 0 area (omega arith) 0 0 (omega arith) (omega arith)
 
   module _ (inside : 2 * m * n ≤ length area) where
     pub front-sum : take n (recombined s m area) ≡ total p n f 0 m
     unfolding recombined values
-    front-sum =
-        let e : m * n ≤ length area = let t = mul-le m n (2 * m) n (omega arith) (omega arith) in omega arith in
-        take-map-range_with_len v 0 (2 * n) n (omega arith) ∙ values-sum e
+    front-sum = take-map-range_with_len v 0 (2 * n) n (omega arith) ∙ values-sum (omega arith)
 
     -- the second
     pub back_sum : drop n (recombined s m area) ≡ total p n f m m
@@ -169,10 +165,9 @@ module _ (s : Params) (m : ℕ) (area : List ℕ) where
     back_sum =
         let long = length-map-range_with_len v 0 (2 * n) in
         let gone = length-drop n (map v (counting 0 (2 * n))) in
-        let two : (1 + 1) * m * n ≤ length area = inside in
         ext_get_or 0 (drop n (map v (counting 0 (2 * n)))) (map v (counting n n)) (let e = length-map-range_with_len v n n in omega arith)
         (λ c l. get_or-drop n (map v (counting 0 (2 * n))) c 0 ∙ get_or-map-range_with_len v 0 (2 * n) (n + c) (n + c) 0 (omega arith) (omega arith) ∙ sym (get_or-map-range_with_len v n n c (n + c) 0 (omega arith) refl))
-        ∙ polynomial-sum p n m 1 area two n m (sym (one-mul n)) (sym (one-mul m))
+        ∙ polynomial-sum p n m 1 area inside n m (omega arith) (omega arith)
 
 -- row k of the shares of a commitment, for the shares of y1 and y2 in the area y
 abbrev pub commit_row : Params → ℕ → List ℕ → List ℕ → ℕ → List ℕ

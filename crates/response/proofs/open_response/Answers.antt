@@ -13,10 +13,10 @@ use Rattle.response.proofs.open_response.Goals as goal
 pub open_centred-requires : goal.open_centred-requires
 open_centred-requires g c =
     let s = g.S.ParamSet.params in
-    let least = g.S.ParamSet.sound.n_least in
     let small = g.S.ParamSet.sound.reach_small in
     let h : c.coefficients.c < 2 * s.n = omega arith in
-    (search rules, (h, let d = near_value s g.row.M c.args.z.area.now c.coefficients.c c.requires.near h in omega arith))
+    let d = near_value s g.row.M c.args.z.area.now c.coefficients.c c.requires.near h in
+    (search rules, (h, omega arith))
 
 pub coefficients-preserved : goal.coefficients-preserved
 coefficients-preserved g c =

@@ -1,8 +1,6 @@
-use Rattle.std.proofs.Common.{ℕ, sym, subst, arith, rules}
+use Rattle.std.proofs.Common.{arith, rules}
 use Rattle.std.proofs.lemmas.Result.{err_from_is_err_and}
 use Rattle.linear.proofs.Sharewise.{word_public}
-use Rattle.shares.specs.Groups.{residue_rule}
-use Rattle.shares.specs.Rule.{Within}
 use Rattle.polys.proofs.Places.{value-below}
 use Rattle.response.proofs.Nearness.{passing-none, passing-more, passing-all, passing-short}
 use Rattle.response.proofs.pass.Goals as goal
@@ -16,7 +14,7 @@ check_coefficient-requires g c =
     let p = c.of-ring.ensures in
     let r = c.reach.ensures in
     let h = g.S.ParamSet.sound.k_below_p in
-    (search rules, (c.args.z.some, (subst (λ (p : ℕ). Within (residue_rule p) c.coefficient.result) (sym p) c.coefficient.ensures.within, omega arith)))
+    (search rules, (c.args.z.some, (rw p c.coefficient.ensures.within, omega arith)))
 
 pub coefficients-preserved : goal.coefficients-preserved
 coefficients-preserved g c =

@@ -1,11 +1,7 @@
 use Rattle.std.proofs.Common.{ℕ, ◌<◌, ◌≢◌, length, get_or, ap, ◌∙◌, arith, length-set, below_more}
-use lib.ListN.{length-replicate}
 use Rattle.std.proofs.lemmas.List.{get_or-set_same, get_or-set_other}
 use Rattle.polys.proofs.Places.{shares-are}
 use Rattle.polys.proofs.column.gather.Goals as goal
-
-pub loop-i-init : goal.loop-i-init
-loop-i-init g c = (length-replicate g.row.M 0, λ k h. absurd (omega arith))
 
 pub loop-i-preserved : goal.loop-i-preserved
 loop-i-preserved g c =

@@ -1,11 +1,8 @@
-use Rattle.std.proofs.Common.{◌≡◌, ℕ, ◌<◌, ◌≢◌, length, get_or, sym, refl, ap, ◌∙◌, arith, rules, below_more}
+use Rattle.std.proofs.Common.{◌≡◌, ℕ, ◌<◌, ◌≢◌, length, get_or, sym, ap, ◌∙◌, arith, rules, below_more}
 use Rattle.std.proofs.lemmas.List.{get_or-set_same, get_or-set_other}
 use Rattle.polys.specs.Area.{place}
 use Rattle.polys.proofs.Places.{shares-are, shares-same, place_inside, place-apart}
 use Rattle.polys.proofs.column.scatter.Goals as goal
-
-pub loop-i-init : goal.loop-i-init
-loop-i-init g c = (λ k h. absurd (omega arith), λ k j h l. refl)
 
 pub loop-i-preserved : goal.loop-i-preserved
 loop-i-preserved g c =
