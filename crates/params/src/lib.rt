@@ -5,7 +5,8 @@ ghost use Rattle.std.specs.Prelude.{◌≡◌, ℕ, refl};
 ghost use Rattle.params.specs.Params.{Params, Sound, reach, set_s, set_i};
 ghost use Rattle.params.specs.Sets.{sound_s, sound_i};
 
-// Each constant has a function whose contract tells its value; `sound` hands every generic proof the conditions on a set.
+// Each constant has a function whose contract tells its value, and code above calls that: a proof would have to cite a law at each constant.
+// `sound` hands every generic proof the conditions on a set.
 pub trait ParamSet {
     const N: usize;
 

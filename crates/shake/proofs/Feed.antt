@@ -34,8 +34,8 @@ fed_within s k b (x ∷ bs) h =
     ∙ ap (λ (j : ℕ). passed j (xor_bytes t (k + 1) (x ∷ bs))) n
 
 -- the hasher g is h after more bytes
-pub absorbing_more : (m bs : List ℕ) (h g : Shake256) → Absorbing m h → g.state ≡ fed h.state h.pos bs
-    → g.pos ≡ (h.pos + length bs) % 136 → Absorbing (m ++ bs) g
+pub absorbing_more : (m bs : List ℕ) (h g : Shake256) → Absorbing m h → g.sponge.state ≡ fed h.sponge.state h.sponge.pos bs
+    → g.sponge.pos ≡ (h.sponge.pos + length bs) % 136 → Absorbing (m ++ bs) g
 absorbing_more m bs h g a e q =
     let apart = fed_append (replicate 25 0) 0 m bs (lit< tt) in
     let z = zero-add (length m) in

@@ -11,40 +11,40 @@ use Rattle.shake.specs.Sponge.{byte_of, absorbed, later, shake_byte}
 use Rattle.shake.specs.Progress.{passed, Reading}
 
 -- the state t and the place q are those of the squeezer h some bytes of its block further on
-pub reading_on : (m : List ℕ) (i n : ℕ) (h : Squeezer) (t : List ℕ) (q : ℕ) → Reading m i h → h.pos + n ≤ 136 → t ≡ passed (h.pos + n) h.state
-    → q ≡ (h.pos + n) % 136 → (t ≡ later ((i + n) / 136) (absorbed m)) × (q ≡ (i + n) % 136)
+pub reading_on : (m : List ℕ) (i n : ℕ) (h : Squeezer) (t : List ℕ) (q : ℕ) → Reading m i h → h.sponge.pos + n ≤ 136 → t ≡ passed (h.sponge.pos + n) h.sponge.state
+    → q ≡ (h.sponge.pos + n) % 136 → (t ≡ later ((i + n) / 136) (absorbed m)) × (q ≡ (i + n) % 136)
 unfolding later
 reading_on m i n h t q a l e f =
-    let p : h.pos ≡ i % 136 = a.1 in
+    let p : h.sponge.pos ≡ i % 136 = a.1 in
     let at : q ≡ (i + n) % 136 = omega arith in
-    elim (cases_lt (h.pos + n) 136) [
+    elim (cases_lt (h.sponge.pos + n) 136) [
       | inl b ↦
           let d : i / 136 ≡ (i + n) / 136 = omega arith in
-          let same = cond-true (ltb (h.pos + n) 136) h.state (keccak_f h.state) (lt-ltb (h.pos + n) 136 b) in
+          let same = cond-true (ltb (h.sponge.pos + n) 136) h.sponge.state (keccak_f h.sponge.state) (lt-ltb (h.sponge.pos + n) 136 b) in
           (e ∙ same ∙ a.0 ∙ ap (λ (k : ℕ). later k (absorbed m)) d, at)
       | inr b ↦
           let d : suc (i / 136) ≡ (i + n) / 136 = omega arith in
-          let next = cond-false (ltb (h.pos + n) 136) h.state (keccak_f h.state) (le-ltb (h.pos + n) 136 b) in
+          let next = cond-false (ltb (h.sponge.pos + n) 136) h.sponge.state (keccak_f h.sponge.state) (le-ltb (h.sponge.pos + n) 136 b) in
           (e ∙ next ∙ ap keccak_f a.0 ∙ ap (λ (k : ℕ). later k (absorbed m)) d, at)
     ]
 
 -- Below, x is the rest of the lane that byte i of the output stands in.
 
-pub byte_of_rest : (m : List ℕ) (i j x : ℕ) (h : Squeezer) → Reading m i h → x ≡ get_or h.state (h.pos / 8) 0 / 2 ^ (8 * (h.pos % 8))
-    → h.pos % 8 + j < 8 → shake_byte m (i + j) ≡ x / 2 ^ (8 * j) % 256
+pub byte_of_rest : (m : List ℕ) (i j x : ℕ) (h : Squeezer) → Reading m i h → x ≡ get_or h.sponge.state (h.sponge.pos / 8) 0 / 2 ^ (8 * (h.sponge.pos % 8))
+    → h.sponge.pos % 8 + j < 8 → shake_byte m (i + j) ≡ x / 2 ^ (8 * j) % 256
 unfolding shake_byte byte_of
 byte_of_rest m i j x h a e l =
     let s = a.0 in
-    let p : h.pos ≡ i % 136 = a.1 in
+    let p : h.sponge.pos ≡ i % 136 = a.1 in
     let d : (i + j) / 136 ≡ i / 136 = omega arith in
-    let r : (i + j) % 136 ≡ h.pos + j = omega arith in
-    let d8 : (h.pos + j) / 8 ≡ h.pos / 8 = omega arith in
-    let r8 : 8 * ((h.pos + j) % 8) ≡ 8 * (h.pos % 8) + 8 * j = omega arith in
-    let shifts = shr-shr (get_or h.state (h.pos / 8) 0) (8 * (h.pos % 8)) (8 * j) in
+    let r : (i + j) % 136 ≡ h.sponge.pos + j = omega arith in
+    let d8 : (h.sponge.pos + j) / 8 ≡ h.sponge.pos / 8 = omega arith in
+    let r8 : 8 * ((h.sponge.pos + j) % 8) ≡ 8 * (h.sponge.pos % 8) + 8 * j = omega arith in
+    let shifts = shr-shr (get_or h.sponge.state (h.sponge.pos / 8) 0) (8 * (h.sponge.pos % 8)) (8 * j) in
     cc
 
-pub bytes_of_rest : (m : List ℕ) (i x : ℕ) (h : Squeezer) → Reading m i h → x ≡ get_or h.state (h.pos / 8) 0 / 2 ^ (8 * (h.pos % 8))
-    → (j n : ℕ) → h.pos % 8 + j + n ≤ 8 → map (λ k. x / 2 ^ (8 * k) % 256) (range_with_len j n) ≡ map (shake_byte m) (range_with_len (i + j) n)
+pub bytes_of_rest : (m : List ℕ) (i x : ℕ) (h : Squeezer) → Reading m i h → x ≡ get_or h.sponge.state (h.sponge.pos / 8) 0 / 2 ^ (8 * (h.sponge.pos % 8))
+    → (j n : ℕ) → h.sponge.pos % 8 + j + n ≤ 8 → map (λ k. x / 2 ^ (8 * k) % 256) (range_with_len j n) ≡ map (shake_byte m) (range_with_len (i + j) n)
 bytes_of_rest m i x h a e j zero l = refl
 bytes_of_rest m i x h a e j (suc n) l =
     let first = byte_of_rest m i j x h a e (omega arith) in

@@ -16,9 +16,9 @@ fed s k (b ∷ bs) = fed (passed (k + 1) (xor_byte s k b)) ((k + 1) % 136) bs
 
 -- the hasher has absorbed m so far
 pub record Absorbing (m : List ℕ) (h : Shake256) : Type 0 where
-  pub state_is : h.state ≡ fed (replicate 25 0) 0 m
-  pub place_is : h.pos ≡ length m % 136
+  pub state_is : h.sponge.state ≡ fed (replicate 25 0) 0 m
+  pub place_is : h.sponge.pos ≡ length m % 136
 
 -- the next byte to be squeezed out is byte i of the output for m
 abbrev pub Reading : List ℕ → ℕ → Squeezer → Type 0
-Reading m i h = (h.state ≡ later (i / 136) (absorbed m)) × (h.pos ≡ i % 136)
+Reading m i h = (h.sponge.state ≡ later (i / 136) (absorbed m)) × (h.sponge.pos ≡ i % 136)

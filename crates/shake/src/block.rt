@@ -2,21 +2,25 @@ ghost use Rattle.std.specs.Prelude.{◌≡◌, ◌+◌, ◌%◌, ◌<◌, ◌≤
 ghost use Rattle.shake.specs.Progress.{passed};
 ghost use Rattle.shake.specs.Sponge.{xor_byte};
 
+use crate::Sponge;
+
 // The bytes of a block.
 pub(crate) const RATE: usize = 136;
 
-// The place `count` bytes further on in the block. At its end the state is permuted, and the next block begins.
-pub(crate) fn advance(state: &mut [u64; 25], pos: usize, count: usize) -> usize
-    requires { pos + count ≤ 136 }
-    ensures state { state.new ≡ passed (pos + count) state.old }
-    ensures place { result ≡ (pos + count) % 136 }
-{
-    let next = pos + count;
-    if next < RATE {
-        next
-    } else {
-        keccak::permute(state);
-        0
+impl Sponge {
+    // Goes `count` bytes on. At the block's end the state is permuted, and the next block begins.
+    pub(crate) fn advance(&mut self, count: usize)
+        requires { self.old.pos + count ≤ 136 }
+        ensures state { self.new.state ≡ passed (self.old.pos + count) self.old.state }
+        ensures place { self.new.pos ≡ (self.old.pos + count) % 136 }
+    {
+        let next = self.pos + count;
+        if next < RATE {
+            self.pos = next;
+        } else {
+            keccak::permute(&mut self.state);
+            self.pos = 0;
+        }
     }
 }
 

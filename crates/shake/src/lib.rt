@@ -10,18 +10,22 @@ mod squeeze;
 
 pub use digest::{hash, vectors_hold};
 
-// A hasher that takes in a message: the next byte goes to byte `pos` of the block.
+// A state whose block is done up to byte `pos`.
 #[derive(Drop)]
-pub struct Shake256 {
+struct Sponge {
     state: [u64; 25],
     pos: usize,
     ghost within: { pos < 136 },
 }
 
-// A hasher that gives its output: the next byte is byte `pos` of the block.
+// A hasher that takes in a message.
+#[derive(Drop)]
+pub struct Shake256 {
+    sponge: Sponge,
+}
+
+// A hasher that gives its output.
 #[derive(Drop)]
 pub struct Squeezer {
-    state: [u64; 25],
-    pos: usize,
-    ghost within: { pos < 136 },
+    sponge: Sponge,
 }

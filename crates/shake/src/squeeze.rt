@@ -4,21 +4,20 @@ ghost use Rattle.shake.specs.Sponge.{shake_byte, shake_word16, shake_word32};
 ghost use Rattle.shake.specs.Progress.{Reading};
 
 use crate::Squeezer;
-use crate::block::advance;
 
 impl Squeezer {
     // The rest of the lane that the next byte stands in, with that byte lowest.
     fn rest_of_lane(&self) -> u64
-        ensures { result ≡ slice_index self.now.state (self.now.pos / 8) / 2 ^ (8 * (self.now.pos % 8)) }
+        ensures { result ≡ slice_index self.now.sponge.state (self.now.sponge.pos / 8) / 2 ^ (8 * (self.now.sponge.pos % 8)) }
     {
-        self.state[self.pos / 8] >> (8 * (self.pos % 8))
+        self.sponge.state[self.sponge.pos / 8] >> (8 * (self.sponge.pos % 8))
     }
 
     pub fn next_byte(&mut self) -> u8
         ensures { (m : List ℕ) (i : ℕ) → Reading m i self.old → (result ≡ shake_byte m i) × Reading m (i + 1) self.new }
     {
         let byte = (self.rest_of_lane() & 0xff) as u8;
-        self.pos = advance(&mut self.state, self.pos, 1);
+        self.sponge.advance(1);
         byte
     }
 
@@ -28,9 +27,9 @@ impl Squeezer {
         ensures { (m : List ℕ) (i : ℕ) → Reading m i self.old → (result ≡ map (shake_byte m) (range_with_len i N)) × Reading m (i + N) self.new }
     {
         let mut bytes = [0; N];
-        if self.pos % 8 + N <= 8 {
+        if self.sponge.pos % 8 + N <= 8 {
             bytes.copy_from_slice(&self.rest_of_lane().to_le_bytes()[..N]);
-            self.pos = advance(&mut self.state, self.pos, N);
+            self.sponge.advance(N);
         } else {
             self.squeeze(&mut bytes);
         }

@@ -1,4 +1,3 @@
 pub mod Spendings
 pub mod Meters
 pub mod Checks
-mod Streams

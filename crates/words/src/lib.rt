@@ -25,7 +25,7 @@ pub enum Mark {
 }
 
 impl Mark {
-    /// The number by which the mark is told.
+    /// The number by which the world outside knows the mark, which a match says most plainly.
     pub fn number(self) -> u8
         ensures { result ≡ mark_number self }
     {
@@ -44,7 +44,7 @@ const LONGEST: usize = 1 << 40;
 pub struct OutOfRange;
 
 impl OutOfRange {
-    /// The number by which the refusal is told.
+    /// The number by which the world outside knows the refusal.
     pub fn number(self) -> u8
         ensures { result ≡ 11 }
     {

@@ -16,7 +16,7 @@ impl Cutoff {
     pub fn new(value: u32) -> Result<Cutoff, OutOfRange>
         ensures { Refuses (Unfit value) result (λ c. c.value ≡ value) }
     {
-        if value < 2 || value > 64 {
+        if !(2..=64).contains(&value) {
             return Err(OutOfRange);
         }
         Ok(Cutoff { value })

@@ -15,12 +15,12 @@ fed-lane s k (b ∷ bs) n l =
 pub returns : goal.returns
 returns c =
     λ m a.
-    let s : List ℕ = c.args.self.now.state in
-    let k : ℕ = c.args.self.now.pos in
+    let s : List ℕ = c.args.self.now.sponge.state in
+    let k : ℕ = c.args.self.now.sponge.pos in
     let bs : List ℕ = c.args.bytes.now in
     let l : k / 8 < length s = omega arith in
     let le : k + 8 ≤ 136 = omega (arith, c.requires) in
-    let place : c.advance-self.result ≡ (k + length bs) % 136 = omega arith in
+    let place : c.advance.new.self.pos ≡ (k + length bs) % 136 = omega arith in
     let w = eight_number bs c.from_le_bytes.result c.told-bytes c.from_le_bytes.ensures in
     let x = lane_is s k c.from_le_bytes.result bs l c.requires c.told-bytes (each_byte bs c.fits-bytes) w in
-    absorbing_more m bs c.args.self.now _ a (c.advance-self.ensures.state ∙ ap (passed (k + 8)) x ∙ fed-lane s k bs c.told-bytes le) place
+    absorbing_more m bs c.args.self.now _ a (c.advance.ensures.state ∙ ap (passed (k + 8)) x ∙ fed-lane s k bs c.told-bytes le) place

@@ -11,7 +11,7 @@ returns-then-self-le8 g c =
     let n : ℕ = g.row.N in
     let x : ℕ = c.rest_of_lane.result in
     let byte = λ (k : ℕ). x / 2 ^ (8 * k) % 256 in
-    let within : c.args.self.now.pos % 8 + 0 + n ≤ 8 = omega arith in
+    let within : c.args.self.now.sponge.pos % 8 + 0 + n ≤ 8 = omega arith in
     let lowest : x % 256 ≡ byte 0 = omega arith in
     let lane : c.to_le_bytes.result ≡ map byte (range_with_len 0 8) = c.to_le_bytes.ensures ∙ ap (λ (b : ℕ). b ∷ map byte (range_with_len 1 7)) lowest in (
       c.copy_from_slice.ensures.after
@@ -19,5 +19,5 @@ returns-then-self-le8 g c =
           ∙ take-map-range_with_len byte 0 8 n (omega arith)
           ∙ bytes_of_rest m i x c.args.self.now a c.rest_of_lane.ensures 0 n within
           ∙ ap (λ k. map (shake_byte m) (range_with_len k n)) (add-zero i),
-      reading_on m i n c.args.self.now _ _ a (omega arith) c.advance-self.ensures.state c.advance-self.ensures.place,
+      reading_on m i n c.args.self.now _ _ a (omega arith) c.advance.ensures.state c.advance.ensures.place,
     )
