@@ -1,7 +1,7 @@
 -- Masks beside their inverses.
-use Rattle.std.proofs.Common.{◌≡◌, ℕ, zero, suc, ◌+◌, ◌<◌, List, [], ◌∷◌, length, get_or, set, replicate, sym, refl, ap, ◌∙◌, subst, ap₂, mod-lt, suc-le-suc, arith}
+use Rattle.std.proofs.Common.{◌≡◌, ℕ, suc, ◌+◌, ◌<◌, List, [], ◌∷◌, length, get_or, set, sym, ap, ◌∙◌, subst, ap₂, mod-lt, suc-le-suc, arith}
 use Rattle.shares.specs.Rule.{Rule, Laws, Within, recombine}
-use Rattle.shares.specs.Groups.{residue_rule, residue_of}
+use Rattle.shares.specs.Groups.{residue_of}
 use Rattle.shares.proofs.Pairs.{recombine-joined, recombine-in, set-within}
 
 module _ (u : Rule) (laws : Laws u) where
@@ -50,12 +50,3 @@ module _ (u : Rule) (laws : Laws u) where
 pub residue_below : (p : ℕ) (xs : List ℕ) → 1 < p → residue_of p xs < p
 residue_below p [] h = omega arith
 residue_below p (x ∷ xs) h = mod-lt (x + residue_of p xs) (omega arith)
-
-pub zeros_at : (n k : ℕ) → get_or {A = ℕ} (replicate n 0) k 0 ≡ 0
-zeros_at zero k = refl
-zeros_at (suc n) zero = refl
-zeros_at (suc n) (suc k) = zeros_at n k
-
--- at residues
-pub zeros_within : (p n : ℕ) → 1 < p → Within (residue_rule p) (replicate n 0)
-zeros_within p n h k l = let e = zeros_at n k in omega arith

@@ -18,10 +18,6 @@ module _ (u : Rule) (laws : Laws u) where
   pub left-none : (xs : List ℕ) → Within u xs → Left xs u.unit 0
   left-none xs w = record { in_range = laws.unit_in; whole = laws.comm u.unit (recombine u xs) ∙ laws.neutral (recombine u xs) (recombine-in u laws xs w) }
 
-  pub left_one : (xs : List ℕ) → Within u xs → 0 < length xs → Left xs (get_or xs 0 0) 1
-  left_one [] w h = absurd (not-suc-le-zero h)
-  left_one (x ∷ xs) w h = record { in_range = w 0 h; whole = refl }
-
   pub left-more : (xs : List ℕ) (v i : ℕ) → i < length xs → Within u xs → Left xs v i → Left xs (u.op v (get_or xs i 0)) (i + 1)
   left-more xs v i h w l =
       let e : recombine u (drop i xs) ≡ u.op (get_or xs i 0) (recombine u (drop (i + 1) xs)) =

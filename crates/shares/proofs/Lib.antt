@@ -1,4 +1,3 @@
-mod Reduction
 pub mod Pairs
 mod Progress
 pub mod Boolean

@@ -1,20 +1,11 @@
-use Rattle.std.proofs.Common.{◌≡◌, ◌+◌, ◌-◌, ◌++◌, sym, refl, ap, arith, rules}
+use Rattle.std.proofs.Common.{◌+◌, ◌-◌, ◌++◌, sym, refl, ap}
 use Rattle.std.proofs.lemmas.Result.{err_from_is_err_and}
 use Rattle.shares.specs.Refresh.{rows}
 use Rattle.shares.proofs.Progress.{row_more, rows_more, row_none, rows_none, goes_start, goes_then, goes_pair, goes_done, goes_short}
 use Rattle.shares.proofs.refresh.Goals as goal
 
-pub loop-i-init : goal.loop-i-init
-loop-i-init g c =
-    let e : g.row.M - 0 ≡ g.row.M = omega arith in
-    goes_start _ (ap (rows 0) e) c.requires.within
-
 pub loop-j-init : goal.loop-j-init
 loop-j-init g c = goes_start _ (sym (rows_more c.loop-i.i _ c.loop-i-test.true)) c.loop-i.invariant.within
-
-pub refresh_pair-requires : goal.refresh_pair-requires
-refresh_pair-requires g c =
-    (search rules, (omega arith, (omega arith, c.loop-j.invariant.within)))
 
 pub returns-in_err-refresh_pair : goal.returns-in_err-refresh_pair
 returns-in_err-refresh_pair g c =

@@ -23,13 +23,3 @@ returns g c =
       within = subst (Within u) (sym e) (masked-within u laws xs i j r c.requires.rising ins m.1.0 c.requires.within);
       same = ap (recombine u) e ∙ masked-value u laws xs i j r c.requires.rising ins m.1.0 c.requires.within;
     }
-
-pub join-a-requires : goal.join-a-requires
-join-a-requires g c =
-    let hx : length c.args.shares.now ≡ g.row.M = search rules in
-    (c.requires.within c.args.i (omega arith), c.in_ok-mask.ensures.by.1.0)
-
-pub join-b-requires : goal.join-b-requires
-join-b-requires g c =
-    let hx : length c.args.shares.now ≡ g.row.M = search rules in
-    (c.requires.within c.args.j (omega arith), search rules)

@@ -1,6 +1,6 @@
-use Rattle.std.proofs.Common.{◌≡◌, ℕ, ◌+◌, ◌*◌, ◌%◌, ◌<◌, List, length, get_or, set, ap, ◌∙◌, mod-lt, mul_assoc, mul_comm, add-mul, arith, rules}
+use Rattle.std.proofs.Common.{◌≡◌, ℕ, ◌+◌, ◌*◌, ◌%◌, ◌<◌, List, length, get_or, set, ap, ◌∙◌, mul_assoc, mul_comm, add-mul, arith, rules}
 use lib.Bits.{bit_and}
-use Rattle.words.proofs.Spendings.{spent_then, short_then, short_of, spends_then, spends_as, spends_so}
+use Rattle.words.proofs.Spendings.{spent_then, spends_then, spends_as, spends_so}
 use Rattle.shares.specs.Groups.{residue_rule, word_of, residue_of}
 use Rattle.shares.specs.Lawful.{residue_laws}
 use Rattle.shares.specs.Refresh.{pairs}
@@ -14,25 +14,6 @@ cost m g = add-mul (33 * m) 16 g ∙ ap (λ (n : ℕ). n + 16 * g) (ap (λ (n : 
 -- the value of the moved shares
 moved : (p k : ℕ) (zs : List ℕ) (v : ℕ) → 1 < p → 0 < length zs → v ≡ (get_or zs 0 0 + k) % p → residue_of p (set zs 0 v) ≡ (residue_of p zs + k) % p
 moved p k zs v h l e = ap (λ (y : ℕ). residue_of p (set zs 0 y)) e ∙ recombine-joined (residue_rule p) (residue_laws p h) zs 0 k l
-
-pub sec_below-requires : goal.sec_below-requires
-sec_below-requires g c =
-    let p = c.args.ring.p in
-    let hz : length c.args.z ≡ g.row.M = search rules in
-    let w = c.in_ok-word.ensures.by.1 ∙ moved p c.args.reach c.args.z _ c.args.ring.some (omega (arith, c.requires.some)) c.join.ensures in
-    let q = c.args.ring.small in
-    let b : (residue_of p c.args.z + c.args.reach) % p < p = mod-lt _ (omega arith) in
-    (search rules, (c.requires.some, (omega arith, (omega arith, omega (arith, c.requires.near)))))
-
-pub returns-in_err-word : goal.returns-in_err-word
-returns-in_err-word g c =
-    let t = cost g.row.M (pairs g.row.M) in
-    let s = short_of {b = (33 * g.row.M + 16) * pairs g.row.M} c.in_err-word.ensures.by (omega arith) in search rules
-
-pub returns-in_err-inside : goal.returns-in_err-inside
-returns-in_err-inside g c =
-    let t = cost g.row.M (pairs g.row.M) in
-    let s = short_of {b = (33 * g.row.M + 16) * pairs g.row.M} (short_then c.in_ok-word.ensures.by.0 c.in_err-inside.ensures.by) (omega arith) in search rules
 
 pub returns : goal.returns
 returns g c =

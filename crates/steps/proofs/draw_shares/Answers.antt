@@ -1,16 +1,7 @@
-use Rattle.std.proofs.Common.{◌≡◌, ◌<◌, ◌≢◌, length, sym, ◌∙◌, arith, length-set, get_or-set_other, get_or-set_same, rules, below_more}
-use lib.ListN.{length-replicate}
-use Rattle.words.proofs.Spendings.{spent_none, spent_as, spent_then, spent_one, short_one, short_then, short_of}
+use Rattle.std.proofs.Common.{◌≡◌, ◌<◌, ◌≢◌, length, sym, ◌∙◌, arith, length-set, get_or-set_other, get_or-set_same, below_more}
+use Rattle.words.proofs.Spendings.{spent_as, spent_then, spent_one}
 use Rattle.steps.proofs.Drawing.{first_left, first_words}
 use Rattle.steps.proofs.draw_shares.Goals as goal
-
-pub loop-share-init : goal.loop-share-init
-loop-share-init g c = (length-replicate g.row.M 0, λ k h. absurd (omega arith), spent_none _)
-
-pub returns-in_err-share : goal.returns-in_err-share
-returns-in_err-share g c =
-    let s = short_of {b = g.row.M} (short_then c.loop-share.invariant.2 (short_one c.in_err-share.ensures)) (omega arith) in
-    search rules
 
 pub loop-share-preserved : goal.loop-share-preserved
 loop-share-preserved g c =

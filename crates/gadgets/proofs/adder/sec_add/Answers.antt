@@ -1,14 +1,11 @@
 use Rattle.std.proofs.Common.{◌≡◌, ℕ, ◌*◌, ◌%◌, ◌^◌, ◌<◌, get_or, sym, subst, subst₂, arith, w32, Fits, rules}
 use Rattle.std.proofs.lemmas.Nat.{one_shl, pow_below}
-use Rattle.words.proofs.Spendings.{spent_none, spent_as, spent_then, short_then, short_of, times_none, times_more, times_below}
+use Rattle.words.proofs.Spendings.{spent_as, spent_then, short_then, short_of, times_more, times_below}
 use Rattle.shares.specs.Groups.{word_of}
 use Rattle.shares.specs.Refresh.{pairs}
 use Rattle.linear.proofs.Sharewise.{word_fits}
 use Rattle.gadgets.proofs.Carries.{Carried, carries_of, carried_first, level, sum_last}
 use Rattle.gadgets.proofs.adder.sec_add.Goals as goal
-
-pub loop-level-init : goal.loop-level-init
-loop-level-init g c = (λ k h. h, spent_as (spent_none _) (sym (times_none (3 * pairs g.row.M))))
 
 small : (j : ℕ) → j < 4 → (1 * 2 ^ j) % 2 ^ 32 < 32
 small j h = subst (λ (m : ℕ). m < 32) (sym (one_shl j 32 (omega arith))) (pow_below j 5 (omega arith))

@@ -1,14 +1,9 @@
-use Rattle.std.proofs.Common.{◌≡◌, ℕ, ◌+◌, ◌-◌, ◌*◌, ◌/◌, ◌%◌, ◌^◌, ap, ◌∙◌, arith, rules}
-use Rattle.words.proofs.Spendings.{spent_as, spent_then, short_then, short_of}
+use Rattle.std.proofs.Common.{◌≡◌, ℕ, ◌+◌, ◌-◌, ◌/◌, ◌%◌, ◌^◌, ap, ◌∙◌, arith}
+use Rattle.words.proofs.Spendings.{spent_as, spent_then}
 use Rattle.shares.specs.Groups.{word_of}
-use Rattle.shares.specs.Refresh.{pairs}
 use Rattle.linear.proofs.Sharewise.{word_public}
 use Rattle.gadgets.proofs.Selection.{top_below}
 use Rattle.gadgets.proofs.adder.sec_below.Goals as goal
-
-pub returns-in_err-difference : goal.returns-in_err-difference
-returns-in_err-difference g c =
-    let s = short_of {b = 15 * pairs g.row.M} (short_then c.in_ok-minus.ensures.by.0 c.in_err-difference.ensures.by) (omega arith) in search rules
 
 pub returns : goal.returns
 returns g c =

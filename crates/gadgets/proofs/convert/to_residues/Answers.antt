@@ -1,16 +1,10 @@
-use Rattle.std.proofs.Common.{◌≡◌, ℕ, ◌+◌, ◌*◌, ◌%◌, ◌<◌, length, get_or, refl, ap, ◌∙◌, arith, rules}
+use Rattle.std.proofs.Common.{◌≡◌, ℕ, ◌+◌, ◌*◌, ◌%◌, length, refl, ap, ◌∙◌, arith, rules}
 use Rattle.words.proofs.Spendings.{spent_as, spent_then, times_more}
 use Rattle.shares.specs.Groups.{residue_rule, word_of}
 use Rattle.shares.specs.Lawful.{residue_laws}
 use Rattle.shares.specs.Refresh.{pairs}
 use Rattle.gadgets.proofs.Masks.{Inverses, inverses-within, residue_below, shares-of}
 use Rattle.gadgets.proofs.convert.to_residues.Goals as goal
-
-pub each-negatives-requires : goal.each-negatives-requires
-each-negatives-requires g c =
-    let hz : length c.in_ok-out.out ≡ g.row.M = search rules in
-    let w : (k : ℕ) → k < g.row.M → get_or c.in_ok-out.out k 0 < c.args.ring.p = λ k h. c.in_ok-out.ensures.by.1.0 k (omega arith) in
-    search rules
 
 pub to_words-requires : goal.to_words-requires
 to_words-requires g c =

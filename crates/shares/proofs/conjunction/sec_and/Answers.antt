@@ -4,15 +4,10 @@ use Rattle.shares.specs.Groups.{word_of}
 use Rattle.shares.specs.Refresh.{pairs, rows}
 use Rattle.shares.specs.Conjoined.{crossed_all}
 use Rattle.shares.proofs.Pairs.{length_rows}
-use Rattle.shares.proofs.Progress.{row_more, rows_more, row_none, rows_none}
+use Rattle.shares.proofs.Progress.{row_more, rows_more, rows_none}
 use Rattle.shares.proofs.Products.{conjoined-value}
 use Rattle.shares.proofs.Crossing.{crosses_start, crosses_then, crosses_pair, crosses_short}
 use Rattle.shares.proofs.conjunction.sec_and.Goals as goal
-
-pub loop-i-init : goal.loop-i-init
-loop-i-init g c =
-    let e : g.row.M - 0 ≡ g.row.M = omega arith in
-    crosses_start (ap (rows 0) e)
 
 pub loop-j-init : goal.loop-j-init
 loop-j-init g c = crosses_start (sym (rows_more c.loop-i.i _ c.loop-i-test.true))
@@ -32,13 +27,6 @@ loop-j-preserved g c =
     let i = c.loop-i.i in
     let e = ap (λ r. r ++ rows (i + 1) (m - (i + 1))) (row_more i c.loop-j.j m c.loop-j-test.true) in
     crosses_then (crosses_pair c.in_ok-r.ensures _ e) refl c.loop-j.invariant
-
-pub loop-i-preserved : goal.loop-i-preserved
-loop-i-preserved g c =
-    let m = g.row.M in
-    let i = c.loop-i.i in
-    let e = ap (λ r. r ++ rows (i + 1) (m - (i + 1))) (row_none i c.loop-j.j m c.loop-j-test.false) in
-    crosses_then (crosses_then (crosses_start refl) (sym e) c.loop-j.invariant) refl c.loop-i.invariant
 
 pub returns : goal.returns
 returns g c =

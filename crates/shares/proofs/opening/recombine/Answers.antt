@@ -8,11 +8,6 @@ loop-share-init g c =
     let laws = g.G.Group.laws c.args.g.now in
     subst (λ (v : ℕ). Left u laws c.args.shares v 0) (sym c.unit-value.ensures) (left-none u laws c.args.shares c.requires.within)
 
-pub join-value-requires : goal.join-value-requires
-join-value-requires g c =
-    let hx : length c.args.shares ≡ g.row.M = search rules in
-    (c.loop-share.invariant.in_range, c.requires.within c.loop-share.share-index (omega arith))
-
 pub loop-share-preserved : goal.loop-share-preserved
 loop-share-preserved g c =
     let hx : length c.args.shares ≡ g.row.M = search rules in
