@@ -10,6 +10,7 @@ use Rattle.plain.specs.Run.{Key, signed, all_failed, rejected, choose, run, stop
 use Rattle.drawing.specs.Resume.{Subject, Supply, setting_of, resume, Fits, Stops}
 use Rattle.refusal.specs.declared.fault.Fault.{Fault}
 use Rattle.steps.specs.declared.Ended.{Ended}
+use Rattle.attempt.specs.declared.subject.Subject.{Subject as InShares}
 use Rattle.attempt.specs.Stages.{Halted}
 
 -- the key that a key area of m shares holds beside the public polynomial a
@@ -19,6 +20,10 @@ key_in s m a area = record { a = a; s1 = take s.n (recombined s m area); s2 = dr
 -- what is signed with it
 abbrev pub subject_of : Params → ℕ → (a area digest : List ℕ) (counter : ℕ) → Subject
 subject_of s m a area digest counter = record { key = key_in s m a area; digest = digest; counter = counter }
+
+-- what a subject in m shares says to sign
+abbrev pub signs : {S : _} {g : _} → Params → ℕ → InShares S g → Subject
+signs s m u = subject_of s m u.a.words.now u.key.now u.digest.now u.counter
 
 -- the attempt passes: the run stops with its record, which stands in the record area
 pub record Passed (s : Params) (m : ℕ) (u : Subject) (bytes : List ℕ) (n n' f f' : Flow) : Type 0 where

@@ -8,8 +8,8 @@ ghost use Rattle.record.specs.Writing.{content_of};
 ghost use Rattle.ring.specs.Ring.{Residues, centre, plus, product};
 ghost use Rattle.polys.specs.Area.{recombined, values};
 ghost use Rattle.drawing.specs.Drawing.{halted};
-ghost use Rattle.drawing.specs.Resume.{Subject as Signs};
-ghost use Rattle.attempt.specs.Attempt.{Attempts, subject_of};
+ghost use Rattle.drawing.specs.Resume.{Subject as PlainSubject};
+ghost use Rattle.attempt.specs.Attempt.{Attempts, signs};
 ghost use Rattle.attempt.specs.Stages.{Begins, Closes, Commits, answer_to, attempt_of, commitment_to, outcome_of};
 
 pub mod stage;
@@ -30,27 +30,6 @@ pub use stopped::Stopped;
 pub use subject::Subject;
 use words::{Mark, Source};
 
-// Tells an attempt's number with the source that ended in it.
-fn stop_at(number: u32, halt: Halt) -> Stopped
-    ensures outcome { outcome_of result ≡ halted halt number }
-    ensures number { attempt_of result ≡ number }
-{
-    let attempt = number;
-    let step = halt.step;
-    match halt.ended {
-        Ended::Nonces(mark) => Ended::Nonces(Fault {
-            mark,
-            attempt,
-            step,
-        }),
-        Ended::Masks(mark) => Ended::Masks(Fault {
-            mark,
-            attempt,
-            step,
-        }),
-    }
-}
-
 // The masks ended in a step of an attempt.
 fn masks_ended(number: u32, step: Step, mark: Mark) -> Stopped
     ensures { result ≡ Ended.Masks (record { mark = mark; attempt = number; step = step }) }
@@ -60,6 +39,21 @@ fn masks_ended(number: u32, step: Step, mark: Mark) -> Stopped
         attempt: number,
         step,
     })
+}
+
+// Tells an attempt's number with the source that ended in it.
+fn stop_at(number: u32, halt: Halt) -> Stopped
+    ensures outcome { outcome_of result ≡ halted halt number }
+    ensures number { attempt_of result ≡ number }
+{
+    match halt.ended {
+        Ended::Nonces(mark) => Ended::Nonces(Fault {
+            mark,
+            attempt: number,
+            step: halt.step,
+        }),
+        Ended::Masks(mark) => masks_ended(number, halt.step, mark),
+    }
 }
 
 impl Drawn {
@@ -73,7 +67,7 @@ impl Drawn {
         requires some { 0 < M }
         requires most { M ≤ 8 }
         requires sized { length y.old ≡ 2 * M * S.params.n }
-        ensures drawn { (u : Signs) → Begins S.params M u number result (recombined S.params M y.new) (N.flow nonces.old) (N.flow nonces.new) (W.flow masks.old) (W.flow masks.new) }
+        ensures drawn { (u : PlainSubject) → Begins S.params M u number result (recombined S.params M y.new) (N.flow nonces.old) (N.flow nonces.new) (W.flow masks.old) (W.flow masks.new) }
         ensures residues { OnOk result (Residues S.params.p y.new) }
     {
         draw::<M, S, N, W>(y, nonces, masks).map_err(|halt| stop_at(number, halt))?;
@@ -133,6 +127,7 @@ fn write_record<S: ParamSet>(out: &mut [u8], counter: u16, digest: &[u8; 32], z:
     requires c { length c.now ≡ S.params.n }
     ensures { out.new ≡ encode S.params (content_of counter digest.now z.now c.now) }
 {
+    // Every size fits, and nothing else is refused.
     match write::<S>(out, counter, digest, z, c) {
         Ok(()) => {}
         Err(_) => unreachable(),
@@ -140,6 +135,7 @@ fn write_record<S: ParamSet>(out: &mut [u8], counter: u16, digest: &[u8; 32], z:
 }
 
 /// One attempt, from its first draw to its record, which is written if it passes.
+// The areas and the sources are lent one by one: a struct of them would want a clause in each contract that it still lends the same ones.
 pub fn attempt<const M: usize, S: ParamSet, P: Multiply<S>, N: Source, W: Source>(
     number: u32,
     subject: Subject<'_, S>,
@@ -151,7 +147,7 @@ pub fn attempt<const M: usize, S: ParamSet, P: Multiply<S>, N: Source, W: Source
     requires shares { M ≡ subject.shares }
     requires work { length work.old ≡ 6 * M * S.params.n }
     requires record { length «record».old ≡ size S.params }
-    ensures { Attempts S.params M (subject_of S.params M subject.entry.a.words.now subject.entry.key.now subject.entry.digest.now subject.entry.counter) number result «record».old «record».new (N.flow nonces.old) (N.flow nonces.new) (W.flow masks.old) (W.flow masks.new) }
+    ensures { Attempts S.params M (signs S.params M subject.entry) number result «record».old «record».new (N.flow nonces.old) (N.flow nonces.new) (W.flow masks.old) (W.flow masks.new) }
 {
     let n = S::degree();
     let (y, rest) = work.split_at_mut(2 * M * n);

@@ -36,6 +36,7 @@ pub fn load<S: ParamSet, M: Multiply<S>, W: Source>(
     ensures loadable { OnOk result (Loadable S.params shares secret.now public.old key.old) }
 {
     check_load::<S>(shares, secret, public, key)?;
+    // No `?`: a load that ends early clears the key area first.
     match load_counted::<S, W>(shares, secret, key, masks) {
         (Ok(()), count) => {
             publish::<S, M>(secret, public);

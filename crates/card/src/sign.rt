@@ -57,6 +57,7 @@ impl Card {
     }
 
     /// Signs a digest within so many tries, and writes the record into the area lent for it.
+    // Each area under a name of its own, since the promise says of each what becomes of it.
     pub fn sign<S: ParamSet, P: Multiply<S>, N: Source, W: Source>(
         &mut self,
         digest: &[u8; 32],

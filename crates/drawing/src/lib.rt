@@ -42,6 +42,7 @@ pub fn candidate_bits<S: ParamSet>() -> u32
 }
 
 // The place of the i-th coefficient of y1 and y2.
+#[tactic(auto, using(std::proofs::lemmas::Nat::div_below))]
 fn at<S: ParamSet>(i: usize) -> Coefficient
     requires { i < 2 * S.params.n }
     ensures { result ≡ at S.params i }
@@ -84,6 +85,7 @@ pub fn draw<const M: usize, S: ParamSet, N: Source, W: Source>(
     let n = S::degree();
     let bits = candidate_bits::<S>();
     let limit = candidate_limit::<S>();
+    // Both loops in one function, left by label: what a draw does is one sentence.
     'draw: {
         'coefficients: for i in 0..coefficients::<S>() {
             let at = at::<S>(i);

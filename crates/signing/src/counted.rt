@@ -1,7 +1,7 @@
 // A signing at a share count that is known when the program runs, with what it took.
 ghost use Rattle.std.specs.Prelude.{◌≡◌, ◌-◌, ◌*◌, ◌/◌, ◌<◌, ◌≤◌, length};
 ghost use Rattle.record.specs.Layout.{size};
-ghost use Rattle.attempt.specs.Attempt.{subject_of};
+ghost use Rattle.attempt.specs.Attempt.{signs};
 ghost use Rattle.signing.specs.Signing.{Follows, attempts_begun, plain_run};
 ghost use Rattle.plain.specs.Run.{counts_of};
 
@@ -25,7 +25,7 @@ fn sign_shares<S: ParamSet, P: Multiply<S>, N: Source, W: Source>(
     requires tries { 0 < tries }
     requires work { length work.old ≡ 6 * subject.shares * S.params.n }
     requires record { length «record».old ≡ size S.params }
-    ensures { Follows S.params subject.entry.shares tries result «record».old «record».new (N.flow nonces.old) (N.flow nonces.new) (W.flow masks.old) (W.flow masks.new) (plain_run S.params subject.entry.shares (subject_of S.params subject.entry.shares subject.entry.a.words.now subject.entry.key.now subject.entry.digest.now subject.entry.counter) tries (N.flow nonces.old) (W.flow masks.old)) }
+    ensures { Follows S.params subject.entry.shares tries result «record».old «record».new (N.flow nonces.old) (N.flow nonces.new) (W.flow masks.old) (W.flow masks.new) (plain_run S.params subject.entry.shares (signs S.params subject.entry.shares subject.entry) tries (N.flow nonces.old) (W.flow masks.old)) }
 {
     at_share_count!(
         subject.shares,
@@ -57,8 +57,8 @@ pub fn sign_counted<S: ParamSet, P: Multiply<S>, N: Source, W: Source>(
     requires tries { 0 < tries }
     requires work { length work.old ≡ 6 * subject.shares * S.params.n }
     requires record { length «record».old ≡ size S.params }
-    ensures follows { Follows S.params subject.entry.shares tries result.0 «record».old «record».new (N.flow nonces.old) (N.flow nonces.new) (W.flow masks.old) (W.flow masks.new) (plain_run S.params subject.entry.shares (subject_of S.params subject.entry.shares subject.entry.a.words.now subject.entry.key.now subject.entry.digest.now subject.entry.counter) tries (N.flow nonces.old) (W.flow masks.old)) }
-    ensures counts { result.1 ≡ counts_of (plain_run S.params subject.entry.shares (subject_of S.params subject.entry.shares subject.entry.a.words.now subject.entry.key.now subject.entry.digest.now subject.entry.counter) tries (N.flow nonces.old) (W.flow masks.old)) }
+    ensures follows { Follows S.params subject.entry.shares tries result.0 «record».old «record».new (N.flow nonces.old) (N.flow nonces.new) (W.flow masks.old) (W.flow masks.new) (plain_run S.params subject.entry.shares (signs S.params subject.entry.shares subject.entry) tries (N.flow nonces.old) (W.flow masks.old)) }
+    ensures counts { result.1 ≡ counts_of (plain_run S.params subject.entry.shares (signs S.params subject.entry.shares subject.entry) tries (N.flow nonces.old) (W.flow masks.old)) }
 {
     let mut nonce_meter = Metered::new(nonces);
     let mut mask_meter = Metered::new(masks);

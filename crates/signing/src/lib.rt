@@ -3,7 +3,7 @@
 
 ghost use Rattle.std.specs.Prelude.{◌≡◌, ◌*◌, ◌<◌, ◌≤◌, length};
 ghost use Rattle.record.specs.Layout.{size};
-ghost use Rattle.attempt.specs.Attempt.{subject_of};
+ghost use Rattle.attempt.specs.Attempt.{signs};
 ghost use Rattle.signing.specs.Signing.{Follows, plain_run};
 
 pub mod counted;
@@ -29,7 +29,7 @@ pub fn sign_in<const M: usize, S: ParamSet, P: Multiply<S>, N: Source, W: Source
     requires tries { 0 < tries }
     requires work { length work.old ≡ 6 * M * S.params.n }
     requires record { length «record».old ≡ size S.params }
-    ensures { Follows S.params M tries result «record».old «record».new (N.flow nonces.old) (N.flow nonces.new) (W.flow masks.old) (W.flow masks.new) (plain_run S.params M (subject_of S.params M subject.entry.a.words.now subject.entry.key.now subject.entry.digest.now subject.entry.counter) tries (N.flow nonces.old) (W.flow masks.old)) }
+    ensures { Follows S.params M tries result «record».old «record».new (N.flow nonces.old) (N.flow nonces.new) (W.flow masks.old) (W.flow masks.new) (plain_run S.params M (signs S.params M subject.entry) tries (N.flow nonces.old) (W.flow masks.old)) }
 {
     'attempts: for number in 1..=tries {
         let passed = attempt::<M, S, P, N, W>(number, subject, work, record, nonces, masks)?;

@@ -1,11 +1,10 @@
 use Rattle.std.proofs.Common.{◌≡◌}
-use Rattle.attempt.specs.Attempt.{subject_of}
+use Rattle.attempt.specs.Attempt.{signs}
 use Rattle.signing.proofs.Going.{Going}
 use Rattle.signing.proofs.sign_in.Given as goal
 
 abbrev pub invariant-attempts : goal.invariant-attempts
 invariant-attempts g l =
     let s = g.S.ParamSet.params in
-    let u = l.subject in
     (l.record ≡ l.initial.record)
-    × Going s g.row.M (subject_of s g.row.M u.a.words.now u.key.now u.digest.now u.counter) l.tries (g.N.Source.flow l.initial.nonces) (g.W.Source.flow l.initial.masks) l.number (g.N.Source.flow l.nonces) (g.W.Source.flow l.masks)
+    × Going s g.row.M (signs s g.row.M l.subject) l.tries (g.N.Source.flow l.initial.nonces) (g.W.Source.flow l.initial.masks) l.number (g.N.Source.flow l.nonces) (g.W.Source.flow l.masks)
