@@ -47,6 +47,7 @@ pub fn check_load<S: ParamSet>(
         return Err(Refusal::AreaSize);
     }
     check_residues(Area::Public, &public[0..n], S::modulus())?;
+    // A match, since what is found is the error.
     match first_not_ternary(secret) {
         Some(index) => Err(Refusal::NotTernary { index }),
         None => Ok(()),

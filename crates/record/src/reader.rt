@@ -61,6 +61,7 @@ fn first_unused_in(byte: u8) -> Option<usize>
 fn check_reach<S: ParamSet>(z: &[u8]) -> Result<(), Refusal>
     ensures { Tested (at_index OutOfReach (first_at (far S.params) (z_of z.now))) result }
 {
+    // A match, since what is found is the error.
     match first_far::<S>(z) {
         Some(index) => Err(Refusal::OutOfReach { index }),
         None => Ok(()),

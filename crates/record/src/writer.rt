@@ -86,6 +86,7 @@ pub fn write<S: ParamSet>(
     if !sizes_fit::<S>(out.len(), z.len(), c.len()) {
         return Err(Refusal::AreaSize);
     }
+    // By the layout's own numbers: of an area that is split for writing nothing is known when the parts are joined again.
     let z_end = challenge_start::<S>();
     out[0..8].copy_from_slice(&head::<S>(counter));
     out[8..40].copy_from_slice(digest);

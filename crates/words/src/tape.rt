@@ -12,6 +12,7 @@ use std::convert::AsSlice;
 #[derive(Drop)]
 pub struct Tape<B: AsSlice<u32>> {
     words: B,
+    // A place, and no rest of the list: a list that is owned has no smaller one in it.
     at: usize,
     ghost few: { length (B.items words) ≤ 2 ^ 40 },
 }
