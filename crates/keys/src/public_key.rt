@@ -8,7 +8,7 @@ use params::ParamSet;
 use polys::multiply_add;
 use ring::{Multiply, Poly};
 
-// The residues of the secret.
+// The residues of the secret. By `enumerate`, since after a `zip` over `iter_mut` a proof knows nothing of what was written.
 fn read_secret<S: ParamSet>(out: &mut [u32], secret: &[i8])
     requires { length out.old ≡ length secret.now }
     ensures { out.new ≡ map (residue S.params.p) secret.now }
@@ -31,8 +31,9 @@ pub fn publish<S: ParamSet, M: Multiply<S>>(secret: &[i8], public: &mut [u32])
     let residues = &mut secret_room[0..2 * n];
     let t = &mut t_room[0..n];
     read_secret::<S>(residues, secret);
-    let (s1, s2) = residues.split_at(n);
-    let a = &public[0..n];
-    multiply_add::<S, M>(t, Poly::new(a), Poly::new(s1), Poly::new(s2));
+    let (front, back) = residues.split_at(n);
+    let s1 = Poly::<S>::new(front);
+    let s2 = Poly::<S>::new(back);
+    multiply_add::<S, M>(t, Poly::new(&public[0..n]), s1, s2);
     public[n..2 * n].copy_from_slice(t);
 }

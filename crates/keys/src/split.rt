@@ -42,6 +42,7 @@ pub(crate) fn split<const M: usize, G: Group, W: Source>(
     ensures { Spends ((G.rule group.now).cost * (M - 1)) result (W.flow source.old) (W.flow source.new) (Splits (G.rule group.now) M (W.flow source.old).words value) }
 {
     let mut shares = [group.unit(); M];
+    // A part of an array whose length is a parameter is lent by way of a slice of the whole.
     let all = &mut shares[..];
     draw_masks(group, &mut all[1..], source)?;
     let sum = recombine(group, shares);

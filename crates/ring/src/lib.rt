@@ -143,14 +143,14 @@ pub trait Multiply<S: ParamSet> {
 }
 
 // acc + k · x, with no reduction.
-fn add_scaled(acc: &mut [u64], k: u32, x: &[u32])
-    requires lengths { length acc.old ≡ length x.now }
+fn add_scaled<S: ParamSet>(acc: &mut [u64], k: u32, x: Poly<'_, S>)
+    requires lengths { length acc.old ≡ S.params.n }
     requires room { Residues (2 ^ 63) acc.old }
-    requires small { (k < 2 ^ 24) × (Residues (2 ^ 24) x.now) }
-    ensures { acc.new ≡ zip_with (λ s c. s + k * c) acc.old x.now }
+    requires factor { k < S.params.p }
+    ensures { acc.new ≡ zip_with (λ s c. s + k * c) acc.old x.entry.words.now }
 {
     for (i, sum) in acc.iter_mut().enumerate() {
-        *sum += k as u64 * x[i] as u64;
+        *sum += k as u64 * x.words[i] as u64;
     }
 }
 
@@ -187,7 +187,7 @@ fn accumulate<S: ParamSet>(acc: &mut [u64], a: Poly<'_, S>, b: &mut [u32])
     ensures { reduced S.params.p acc.new ≡ product S.params.p a.entry.words.now b.old }
 {
     for coefficient in a.words {
-        add_scaled(acc, *coefficient, b);
+        add_scaled::<S>(acc, *coefficient, Poly::new(b));
         times_x::<S>(b);
     }
 }

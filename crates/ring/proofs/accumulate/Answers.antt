@@ -1,6 +1,6 @@
-use Rattle.std.proofs.Common.{ℕ, ◌+◌, ◌*◌, ◌^◌, List, get_or, drop, sym, ap, ◌∙◌, subst, ap₂, arith}
+use Rattle.std.proofs.Common.{◌≡◌, ℕ, ◌+◌, ◌*◌, ◌^◌, List, get_or, drop, sym, ap, ◌∙◌, subst, ap₂, arith}
 use Rattle.std.proofs.lemmas.List.{drop_more, drop_all}
-use Rattle.ring.specs.Ring.{Residues, plus, product}
+use Rattle.ring.specs.Ring.{Residues, zip_with, plus, product}
 use Rattle.ring.proofs.Loops.{product_none, product_more, product_all, zeros_below, sums_grow}
 use Rattle.ring.proofs.Polynomials.{times_x-residues}
 use Rattle.ring.proofs.accumulate.Goals as goal
@@ -20,13 +20,14 @@ loop-coefficient-preserved g c =
     let a = c.args.a.words.now in
     let acc = c.loop-coefficient.acc in
     let b = c.loop-coefficient.b in
-    let inv = c.loop-coefficient.invariant in (
-      ap₂ (λ (s t : List ℕ). plus p s (product p (drop (i + 1) a) t)) c.add_scaled.ensures c.times_x.ensures
+    let inv = c.loop-coefficient.invariant in
+    let added : c.add_scaled.new.acc ≡ zip_with (λ (s x : ℕ). s + get_or a i 0 * x) acc b = c.add_scaled.ensures ∙ ap (zip_with (λ (s x : ℕ). s + get_or a i 0 * x) acc) c.new.ensures in (
+      ap₂ (λ (s t : List ℕ). plus p s (product p (drop (i + 1) a) t)) added c.times_x.ensures
           ∙ product_more p (get_or a i 0) acc b (drop (i + 1) a)
           ∙ ap (λ (t : List ℕ). plus p acc (product p t b)) (sym (drop_more a i 0 (omega arith)))
           ∙ inv.0,
       subst (Residues p) (sym c.times_x.ensures) (times_x-residues p b (omega arith) inv.1),
-      subst (Residues ((i + 1) * 2 ^ 48 + 1)) (sym c.add_scaled.ensures)
+      subst (Residues ((i + 1) * 2 ^ 48 + 1)) (sym added)
           (λ j h. omega (arith, sums_grow (i * 2 ^ 48 + 1) (get_or a i 0) acc b (omega arith) (omega (arith, c.args.a.proper.1 i (omega arith))) (λ k l. omega (arith, inv.1 k l)) inv.2 j h)),
     )
 
