@@ -7,8 +7,7 @@ ghost use Rattle.till.specs.Verification.{PublicKey, answering, commitment};
 
 use challenge::challenge;
 use params::ParamSet;
-use record::Record;
-use record::view::codes;
+use record::{Record, codes};
 use ring::{MOST, Multiply, Poly, add_assign, sub_assign, to_residue};
 
 // The residues of coefficients that stand in two bytes each. Here and below by place: of a slice that is lent out in parts, as by
@@ -107,6 +106,8 @@ pub(crate) fn answers<S: ParamSet, M: Multiply<S>>(key: &[u32], record: &Record<
         Poly::new(z2),
         Poly::new(c),
     );
-    challenge::<S>(expected, r, record.digest, record.counter);
+    // Named first: no field that is a lent array can be lent as a slice.
+    let digest = record.digest;
+    challenge::<S>(expected, r, digest, record.counter);
     *expected == *c
 }
