@@ -2,9 +2,9 @@
 // Crates above work share by share, or call these.
 #![tactic(auto)]
 
-ghost use Rattle.std.specs.Prelude.{◌≡◌, ℕ, ◌*◌, ◌<◌, length};
+ghost use Rattle.std.specs.Prelude.{◌≡◌, ℕ, ◌-◌, ◌*◌, ◌<◌, ◌∷◌};
 ghost use Rattle.words.specs.Spending.{Spends};
-ghost use Rattle.shares.specs.Rule.{Rule, Laws, Within, Masks, recombine};
+ghost use Rattle.shares.specs.Rule.{Rule, Laws, Within, Masks, masks, recombine};
 ghost use Rattle.shares.specs.Refresh.{pairs, rows, refreshed, Pair, Refreshed};
 
 pub mod conjunction;
@@ -60,6 +60,24 @@ pub trait Group {
     // An element made of the next words of a source.
     fn mask<S: Source>(&self, src: &mut S) -> Result<u32, Mark>
         ensures { Spends (rule self.now).cost result (S.flow src.old) (S.flow src.new) (Masks (rule self.now) (S.flow src.old).words) };
+}
+
+/// The unit, and then masks in the places behind it.
+pub fn draw_masks<const M: usize, G: Group, S: Source>(
+    g: &G,
+    src: &mut S,
+) -> Result<Shares<M>, Mark>
+    requires some { 0 < M }
+    ensures { Spends ((G.rule g.now).cost * (M - 1)) result (S.flow src.old) (S.flow src.new) (λ xs. (xs ≡ (G.rule g.now).unit ∷ masks (G.rule g.now) (M - 1) (S.flow src.old).words) × Within (G.rule g.now) xs) }
+{
+    let mut shares = [g.unit(); M];
+    // The first keeps the unit. Not by `skip(1)`, after which nothing is known of what was written.
+    for (i, share) in shares.iter_mut().enumerate() {
+        if 0 < i {
+            *share = g.mask(src)?;
+        }
+    }
+    Ok(shares)
 }
 
 // Joins one mask to share i, and its inverse to share j.
