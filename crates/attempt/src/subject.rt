@@ -19,7 +19,7 @@ pub struct Subject<'a, S: ParamSet> {
     ghost residues: { Residues S.params.p key.now },
 }
 
-// By hand: a derive would ask that S be Copy.
+// By hand: a derive would ask that S be Copy, and `derive_where` refuses a struct with ghost fields.
 impl<'a, S: ParamSet> Clone for Subject<'a, S> {
     ghost is_clone = { λ x y. y ≡ x };
 

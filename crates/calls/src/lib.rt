@@ -34,7 +34,7 @@ pub fn load<S: ParamSet, P: Multiply<S>, W: Source>(
 }
 
 /// Makes a call: sign, remask or report.
-// Each area under a name of its own, as in `Card::sign`.
+// The areas and the sources are lent one by one, as in `Card::sign`.
 pub fn perform<S: ParamSet, P: Multiply<S>, N: Source, W: Source>(
     card: &mut Card,
     call: &Call,

@@ -36,20 +36,17 @@ pub fn load<S: ParamSet, M: Multiply<S>, W: Source>(
     ensures loadable { OnOk result (Loadable S.params shares secret.now public.old key.old) }
 {
     check_load::<S>(shares, secret, public, key)?;
+    let (ending, count) = load_counted::<S, W>(shares, secret, key, masks);
     // No `?`: a load that ends early clears the key area first.
-    match load_counted::<S, W>(shares, secret, key, masks) {
-        (Ok(()), count) => {
-            publish::<S, M>(secret, public);
-            Ok(Loaded {
-                card: Card::new(shares),
-                masks: count,
-            })
-        }
-        (Err(mark), _) => {
-            clear(key);
-            Err(Refusal::MasksEnded { mark })
-        }
+    if let Err(mark) = ending {
+        clear(key);
+        return Err(Refusal::MasksEnded { mark });
     }
+    publish::<S, M>(secret, public);
+    Ok(Loaded {
+        card: Card::new(shares),
+        masks: count,
+    })
 }
 
 impl Card {

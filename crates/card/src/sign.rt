@@ -47,7 +47,7 @@ impl Card {
         }
         check_residues(Area::Public, public, S::modulus())?;
         check_residues(Area::Key, key, S::modulus())?;
-        if tries < 1 || tries > 255 {
+        if !(1..=255).contains(&tries) {
             return Err(Refusal::Tries);
         }
         if self.counter == u16::MAX {
@@ -57,7 +57,7 @@ impl Card {
     }
 
     /// Signs a digest within so many tries, and writes the record into the area lent for it.
-    // Each area under a name of its own, since the promise says of each what becomes of it.
+    // The areas and the sources are lent one by one, as for an attempt: the promise says of each what becomes of it.
     pub fn sign<S: ParamSet, P: Multiply<S>, N: Source, W: Source>(
         &mut self,
         digest: &[u8; 32],

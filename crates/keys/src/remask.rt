@@ -74,6 +74,7 @@ fn remask_shares<S: ParamSet, W: Source>(
 }
 
 /// Refreshes the shares of each coefficient, those of s1 first, and tells how many words were taken.
+// A pair, since the count is promised of a remask that ends early too.
 pub fn remask_counted<S: ParamSet, W: Source>(
     shares: u8,
     key: &mut [u32],

@@ -40,7 +40,7 @@ pub fn check_load<S: ParamSet>(
     ensures { TestsLoad S.params shares secret.now public.now key.now result }
 {
     let n = S::degree();
-    if shares < 1 || shares > 8 {
+    if !(1..=8).contains(&shares) {
         return Err(Refusal::ShareCount);
     }
     if public.len() != 2 * n || secret.len() != 2 * n || key.len() != 2 * shares as usize * n {
@@ -124,6 +124,7 @@ fn load_shares<S: ParamSet, W: Source>(
 }
 
 /// Puts shares of each coefficient into the key area, those of s1 first, and tells how many words were taken.
+// A pair, since the count is promised of a load that ends early too.
 pub fn load_counted<S: ParamSet, W: Source>(
     shares: u8,
     secret: &[i8],

@@ -39,8 +39,7 @@ fn attempts_begun(ending: &Result<u32, Failure>, tries: u32) -> u32
 {
     match ending {
         Ok(attempts) => *attempts,
-        Err(Failure::Halted(Stopped::Nonces(fault))) => fault.attempt,
-        Err(Failure::Halted(Stopped::Masks(fault))) => fault.attempt,
+        Err(Failure::Halted(Stopped::Nonces(fault) | Stopped::Masks(fault))) => fault.attempt,
         Err(Failure::TriesFailed) => tries,
     }
 }

@@ -1,7 +1,7 @@
 use Rattle.std.proofs.Common.{◌≡◌, rules}
 use Rattle.std.proofs.lemmas.Result.{err_from_is_err_and}
 use Rattle.refusal.specs.declared.Refusal.TheVariants.{MasksEnded}
-use Rattle.attempt.proofs.Mapping.{kept_ok, mapped_err}
+use Rattle.drawing.proofs.Mapping.{kept_ok, mapped_err}
 use Rattle.card.proofs.Ending.{remask-done, remask-ended}
 use Rattle.card.proofs.state.Card.remask.Goals as goal
 

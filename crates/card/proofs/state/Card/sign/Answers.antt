@@ -1,6 +1,6 @@
 use Rattle.std.proofs.Common.{◌≡◌, ℕ, ◌-◌, take, replicate, Err, ap, ◌∙◌, rules, arith}
 use Rattle.std.proofs.lemmas.Result.{err_from_is_err_and}
-use Rattle.attempt.proofs.Mapping.{kept_ok, mapped_err}
+use Rattle.drawing.proofs.Mapping.{kept_ok, mapped_err}
 use Rattle.card.specs.Sign.{answer_of, outcome_in}
 use Rattle.card.proofs.Signings.{ran-signed, ran-failed}
 use Rattle.card.proofs.state.Card.sign.Goals as goal
