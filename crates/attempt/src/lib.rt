@@ -145,7 +145,7 @@ pub fn attempt<const M: usize, S: ParamSet, P: Multiply<S>, N: Source, W: Source
     nonces: &mut N,
     masks: &mut W,
 ) -> Result<bool, Stopped>
-    requires shares { M ≡ subject.shares }
+    requires shares { M ≡ subject.shares.count }
     requires work { length work.old ≡ 6 * M * S.params.n }
     requires record { length «record».old ≡ size S.params }
     ensures { Attempts S.params M (signs S.params M subject.entry) number result «record».old «record».new (N.flow nonces.old) (N.flow nonces.new) (W.flow masks.old) (W.flow masks.new) }
