@@ -8,11 +8,13 @@ ghost use Rattle.shares.specs.Rule.{Rule, Laws, Within, Masks, masks, recombine}
 ghost use Rattle.shares.specs.Refresh.{pairs, rows, refreshed, Pair, Refreshed};
 
 pub mod conjunction;
+pub mod count;
 pub mod groups;
 pub mod opening;
 pub mod residues;
 
 pub use conjunction::sec_and;
+pub use count::ShareCount;
 pub use groups::Words;
 pub use opening::{open, recombine};
 pub use residues::Residues;
@@ -22,11 +24,11 @@ use words::{Mark, Source};
 // Only functions that read or write a first share ask for `0 < M`; xor, sec_and and others hold for no share too, so a type that carried it would ask more.
 pub type Shares<const M: usize> = [u32; M];
 
-/// A call at a share count from 1 to 8 that is known when the program runs, as `at_share_count!(shares, sign::<_, S>(key))`.
+/// A call at a share count that is known when the program runs, as `at_share_count!(shares, sign::<_, S>(key))`.
 #[macro_export]
 macro_rules! at_share_count {
     ($shares:expr, $call:ident::<_ $(, $kind:ty)*>($($argument:expr),* $(,)?)) => {
-        match $shares {
+        match $shares.count {
             1 => $call::<1 $(, $kind)*>($($argument),*),
             2 => $call::<2 $(, $kind)*>($($argument),*),
             3 => $call::<3 $(, $kind)*>($($argument),*),
