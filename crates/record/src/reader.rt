@@ -60,14 +60,10 @@ fn first_unused_in(byte: u8) -> Option<usize>
 fn check_reach<S: ParamSet>(z: &[u8]) -> Result<(), Refusal>
     ensures { Tested (at_index OutOfReach (first_at (far S.params) (z_of z.now))) result }
 {
-    // A match, since what is found is the error.
-    match first_far::<S>(z) {
-        Some(index) => Err(Refusal::OutOfReach { index }),
-        None => Ok(()),
-    }
+    first_far::<S>(z).map_or(Ok(()), |index| Err(Refusal::OutOfReach { index }))
 }
 
-// No code of the challenge means nothing.
+// No code of the challenge means nothing. A loop, since `find_map` would add the two places up in a closure within a closure.
 fn check_codes(challenge: &[u8]) -> Result<(), Refusal>
     requires { length challenge.now ≤ 2 ^ 40 }
     ensures { Tested (at_index UnusedCode (first_at (λ code. nat_eq code 2) (unpacked challenge.now))) result }
