@@ -47,6 +47,7 @@ fn stop_at(attempt: u32, halt: Halt) -> Stopped
     ensures number { attempt_of result ≡ attempt }
 {
     let Halt { ended, step } = halt;
+    // Two arms: a `map` of `Ended`, with its contract and its edit, would serve this call alone.
     match ended {
         Ended::Nonces(mark) => Ended::Nonces(Fault {
             mark,
