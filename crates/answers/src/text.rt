@@ -1,7 +1,7 @@
 // Bytes and words, as they are printed.
-ghost use Rattle.std.specs.Prelude.{◌≡◌, ◌<◌, false, ◌++◌, Some};
+ghost use Rattle.std.specs.Prelude.{◌++◌, Some};
 ghost use Rattle.refusal.specs.Told.{area_name};
-ghost use Rattle.std.specs.Fmt.{WritesOnOk, digit_glyph};
+ghost use Rattle.std.specs.Fmt.{WritesOnOk};
 ghost use Rattle.answers.specs.Spelling.{hex_text, spell, word_text};
 
 use refusal::Area;

@@ -1,3 +1,2 @@
 mod Finishing
 mod Closing
-pub mod Mapping

@@ -31,28 +31,30 @@ pub use subject::Subject;
 use words::{Mark, Source};
 
 // The masks ended in a step of an attempt.
-fn masks_ended(number: u32, step: Step, mark: Mark) -> Stopped
-    ensures { result ≡ Ended.Masks (record { mark = mark; attempt = number; step = step }) }
+fn masks_ended(attempt: u32, step: Step, mark: Mark) -> Stopped
+    ensures { result ≡ Ended.Masks (record { mark = mark; attempt = attempt; step = step }) }
 {
     Ended::Masks(Fault {
         mark,
-        attempt: number,
+        attempt,
         step,
     })
 }
 
 // Tells an attempt's number with the source that ended in it.
-fn stop_at(number: u32, halt: Halt) -> Stopped
-    ensures outcome { outcome_of result ≡ halted halt number }
-    ensures number { attempt_of result ≡ number }
+fn stop_at(attempt: u32, halt: Halt) -> Stopped
+    ensures outcome { outcome_of result ≡ halted halt attempt }
+    ensures number { attempt_of result ≡ attempt }
 {
-    match halt.ended {
+    let Halt { ended, step } = halt;
+    // Two arms: a `map` of `Ended`, with its contract and its edit, would serve this call alone.
+    match ended {
         Ended::Nonces(mark) => Ended::Nonces(Fault {
             mark,
-            attempt: number,
-            step: halt.step,
+            attempt,
+            step,
         }),
-        Ended::Masks(mark) => masks_ended(number, halt.step, mark),
+        Ended::Masks(mark) => masks_ended(attempt, step, mark),
     }
 }
 
@@ -144,7 +146,7 @@ pub fn attempt<const M: usize, S: ParamSet, P: Multiply<S>, N: Source, W: Source
     nonces: &mut N,
     masks: &mut W,
 ) -> Result<bool, Stopped>
-    requires shares { M ≡ subject.shares }
+    requires shares { M ≡ subject.shares.count }
     requires work { length work.old ≡ 6 * M * S.params.n }
     requires record { length «record».old ≡ size S.params }
     ensures { Attempts S.params M (signs S.params M subject.entry) number result «record».old «record».new (N.flow nonces.old) (N.flow nonces.new) (W.flow masks.old) (W.flow masks.new) }

@@ -1,25 +1,24 @@
 // What an attempt is of.
-ghost use Rattle.std.specs.Prelude.{◌≡◌, ◌*◌, ◌<◌, ◌≤◌, ⊤, length};
+ghost use Rattle.std.specs.Prelude.{◌≡◌, ◌*◌, ⊤, length};
 ghost use Rattle.ring.specs.Ring.{Residues};
 
 use params::ParamSet;
 use ring::Poly;
+use shares::ShareCount;
 use std::alloc::AllocError;
 
 /// What is signed, and with which key: the key's area, in so many shares, beside the public polynomial a, and the digest and the counter.
 pub struct Subject<'a, S: ParamSet> {
-    pub shares: u8,
+    pub shares: ShareCount,
     pub key: &'a [u32],
     pub a: Poly<'a, S>,
     pub digest: &'a [u8; 32],
     pub counter: u16,
-    ghost some: { 0 < shares },
-    ghost most: { shares ≤ 8 },
-    ghost sized: { length key.now ≡ 2 * shares * S.params.n },
+    ghost sized: { length key.now ≡ 2 * shares.count * S.params.n },
     ghost residues: { Residues S.params.p key.now },
 }
 
-// By hand: a derive would ask that S be Copy.
+// By hand: a derive would ask that S be Copy, and `derive_where` refuses a struct with ghost fields.
 impl<'a, S: ParamSet> Clone for Subject<'a, S> {
     ghost is_clone = { λ x y. y ≡ x };
 

@@ -34,7 +34,7 @@ pub fn load<S: ParamSet, P: Multiply<S>, W: Source>(
 }
 
 /// Makes a call: sign, remask or report.
-// Each area under a name of its own, as in `Card::sign`.
+// The areas and the sources are lent one by one, as in `Card::sign`.
 pub fn perform<S: ParamSet, P: Multiply<S>, N: Source, W: Source>(
     card: &mut Card,
     call: &Call,
@@ -45,10 +45,10 @@ pub fn perform<S: ParamSet, P: Multiply<S>, N: Source, W: Source>(
     nonces: &mut N,
     masks: &mut W,
 ) -> Reply
-    ensures performs { Performs S.params card.old.shares call.now result card.old.counter card.new.counter (areas key.old public.now work.old «record».old) (areas key.new public.now work.new «record».new) (N.flow nonces.old) (N.flow nonces.new) (W.flow masks.old) (W.flow masks.new) }
-    ensures shares { card.new.shares ≡ card.old.shares }
-    ensures same { recombined S.params card.old.shares key.new ≡ recombined S.params card.old.shares key.old }
-    ensures life { Continues S.params card.old.shares call.now result (state_of card.old.counter (N.flow nonces.old) (W.flow masks.old)) (state_of card.new.counter (N.flow nonces.new) (W.flow masks.new)) (areas key.old public.now work.old «record».old) (areas key.new public.now work.new «record».new) }
+    ensures performs { Performs S.params card.old.shares.count call.now result card.old.counter card.new.counter (areas key.old public.now work.old «record».old) (areas key.new public.now work.new «record».new) (N.flow nonces.old) (N.flow nonces.new) (W.flow masks.old) (W.flow masks.new) }
+    ensures shares { card.new.shares.count ≡ card.old.shares.count }
+    ensures same { recombined S.params card.old.shares.count key.new ≡ recombined S.params card.old.shares.count key.old }
+    ensures life { Continues S.params card.old.shares.count call.now result (state_of card.old.counter (N.flow nonces.old) (W.flow masks.old)) (state_of card.new.counter (N.flow nonces.new) (W.flow masks.new)) (areas key.old public.now work.old «record».old) (areas key.new public.now work.new «record».new) }
 {
     match call {
         Call::Sign { digest, tries } => Reply::Signed(card.sign::<S, P, N, W>(

@@ -15,7 +15,7 @@ use Rattle.card.specs.Remask.{RemaskBy}
 
 -- a load
 module _ {A : Type 0} (s : Params) (m : ℕ) (secret : List ℤ) (public key : List ℕ) {public' key' : List ℕ} {f f' : Flow} {hit : Option Refusal} (none : hit ≡ None) (r : Result A Mark) where
-  pub load-done : (x : A) (l : Loaded) → Spends (load_cost s m) r f f' (λ _. Holds s m secret f.words key') → r ≡ Ok x → l.card.shares ≡ m → l.card.counter ≡ 0 → l.masks ≡ length f.words - length f'.words
+  pub load-done : (x : A) (l : Loaded) → Spends (load_cost s m) r f f' (λ _. Holds s m secret f.words key') → r ≡ Ok x → l.card.shares.count ≡ m → l.card.counter ≡ 0 → l.masks ≡ length f.words - length f'.words
       → public' ≡ public_key s secret public → LoadBy s m secret hit (Ok l) public public' key key' f f' × Holds s m secret f.words key'
   load-done x l d e shares counter count t =
       let by = (subst (λ (o : Result A Mark). Spends (load_cost s m) o f f' (λ _. Holds s m secret f.words key')) e d).by in (

@@ -11,7 +11,7 @@ use Rattle.card.specs.declared.state.Loaded.{Loaded}
 -- a card: its shares, the counter 0, the words taken, the key area and the public area
 pub record Made (s : Params) (m : ℕ) (secret : List ℤ) (l : Loaded) (public public' key' : List ℕ) (f : Flow) : Type 0 where
   pub enough : load_cost s m ≤ length f.words
-  pub share_count : l.card.shares ≡ m
+  pub share_count : l.card.shares.count ≡ m
   pub counter : l.card.counter ≡ 0
   pub words_taken : l.masks ≡ load_cost s m
   pub holds : Holds s m secret f.words key'

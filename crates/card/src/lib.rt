@@ -35,21 +35,18 @@ pub fn load<S: ParamSet, M: Multiply<S>, W: Source>(
     ensures public { OnOk result (Residues S.params.p public.new) }
     ensures loadable { OnOk result (Loadable S.params shares secret.now public.old key.old) }
 {
-    check_load::<S>(shares, secret, public, key)?;
+    let count = check_load::<S>(shares, secret, public, key)?;
+    let (ending, taken) = load_counted::<S, W>(count, secret, key, masks);
     // No `?`: a load that ends early clears the key area first.
-    match load_counted::<S, W>(shares, secret, key, masks) {
-        (Ok(()), count) => {
-            publish::<S, M>(secret, public);
-            Ok(Loaded {
-                card: Card::new(shares),
-                masks: count,
-            })
-        }
-        (Err(mark), _) => {
-            clear(key);
-            Err(Refusal::MasksEnded { mark })
-        }
+    if let Err(mark) = ending {
+        clear(key);
+        return Err(Refusal::MasksEnded { mark });
     }
+    publish::<S, M>(secret, public);
+    Ok(Loaded {
+        card: Card::new(count),
+        masks: taken,
+    })
 }
 
 impl Card {
@@ -59,11 +56,11 @@ impl Card {
         key: &mut [u32],
         masks: &mut W,
     ) -> Result<u64, Refusal>
-        ensures remasked { RemaskBy S.params self.now.shares (first_hit (key_tests S.params self.now.shares key.old)) result key.old key.new (W.flow masks.old) (W.flow masks.new) }
-        ensures same { recombined S.params self.now.shares key.new ≡ recombined S.params self.now.shares key.old }
+        ensures remasked { RemaskBy S.params self.now.shares.count (first_hit (key_tests S.params self.now.shares.count key.old)) result key.old key.new (W.flow masks.old) (W.flow masks.new) }
+        ensures same { recombined S.params self.now.shares.count key.new ≡ recombined S.params self.now.shares.count key.old }
         ensures residues { Residues S.params.p key.old → Residues S.params.p key.new }
     {
-        check_key::<S>(self.shares, key)?;
+        check_key::<S>(self.shares.count, key)?;
         let (ending, count) = remask_counted::<S, W>(self.shares, key, masks);
         ending.map_err(|mark| Refusal::MasksEnded { mark })?;
         Ok(count)

@@ -34,10 +34,10 @@ impl Card {
         work: &[u32],
         record: &[u8],
     ) -> Result<(), Refusal>
-        ensures { TestsSign S.params self.now.shares self.now.counter tries key.now public.now work.now «record».now result }
+        ensures { TestsSign S.params self.now.shares.count self.now.counter tries key.now public.now work.now «record».now result }
     {
         let n = S::degree();
-        let rows = self.shares as usize * n;
+        let rows = self.shares.count as usize * n;
         if public.len() != 2 * n
             || key.len() != 2 * rows
             || work.len() != 6 * rows
@@ -47,7 +47,7 @@ impl Card {
         }
         check_residues(Area::Public, public, S::modulus())?;
         check_residues(Area::Key, key, S::modulus())?;
-        if tries < 1 || tries > 255 {
+        if !(1..=255).contains(&tries) {
             return Err(Refusal::Tries);
         }
         if self.counter == u16::MAX {
@@ -57,7 +57,7 @@ impl Card {
     }
 
     /// Signs a digest within so many tries, and writes the record into the area lent for it.
-    // Each area under a name of its own, since the promise says of each what becomes of it.
+    // The areas and the sources are lent one by one, as for an attempt: the promise says of each what becomes of it.
     pub fn sign<S: ParamSet, P: Multiply<S>, N: Source, W: Source>(
         &mut self,
         digest: &[u8; 32],
@@ -69,8 +69,8 @@ impl Card {
         nonces: &mut N,
         masks: &mut W,
     ) -> Result<Signed, Refusal>
-        ensures signed { SignBy S.params self.old.shares digest.now tries key.now public.now (first_hit (sign_tests S.params self.old.shares self.old.counter tries key.now public.now work.old «record».old)) result self.old.counter self.new.counter work.old work.new «record».old «record».new (N.flow nonces.old) (N.flow nonces.new) (W.flow masks.old) (W.flow masks.new) }
-        ensures shares { self.new.shares ≡ self.old.shares }
+        ensures signed { SignBy S.params self.old.shares.count digest.now tries key.now public.now (first_hit (sign_tests S.params self.old.shares.count self.old.counter tries key.now public.now work.old «record».old)) result self.old.counter self.new.counter work.old work.new «record».old «record».new (N.flow nonces.old) (N.flow nonces.new) (W.flow masks.old) (W.flow masks.new) }
+        ensures shares { self.new.shares.count ≡ self.old.shares.count }
         ensures digest { length digest.now ≡ 32 }
     {
         self.check_sign::<S>(tries, key, public, work, record)?;

@@ -1,15 +1,14 @@
 // What a card holds, and what calls tell of it.
-ghost use Rattle.std.specs.Prelude.{◌≡◌, ◌<◌, ◌≤◌};
+ghost use Rattle.std.specs.Prelude.{◌≡◌};
 
 use refusal::Counts;
+use shares::ShareCount;
 
 /// A loaded card: how many shares its key is in, and the counter of its last record, 0 before the first.
 #[derive(Drop)]
 pub struct Card {
-    pub(crate) shares: u8,
+    pub(crate) shares: ShareCount,
     pub(crate) counter: u16,
-    ghost some: { 0 < shares },
-    ghost most: { shares ≤ 8 },
 }
 
 /// A new card, and how many words its masks took.
@@ -34,20 +33,19 @@ pub struct Report {
 }
 
 impl Card {
-    pub(crate) fn new(shares: u8) -> Card
-        requires { (0 < shares) × (shares ≤ 8) }
-        ensures { (result.shares ≡ shares) × (result.counter ≡ 0) }
+    pub(crate) fn new(shares: ShareCount) -> Card
+        ensures { (result.shares.count ≡ shares.count) × (result.counter ≡ 0) }
     {
         Card { shares, counter: 0 }
     }
 
     pub fn report(&self) -> Report
         ensures counter { result.counter ≡ self.now.counter }
-        ensures shares { result.shares ≡ self.now.shares }
+        ensures shares { result.shares ≡ self.now.shares.count }
     {
         Report {
             counter: self.counter,
-            shares: self.shares,
+            shares: self.shares.count,
         }
     }
 }

@@ -1,3 +1,4 @@
+pub mod Mapping
 pub mod Resuming
 mod Widths
 mod Candidates

@@ -88,25 +88,22 @@ pub fn draw<const M: usize, S: ParamSet, N: Source, W: Source>(
     // Both loops in one function, left by label: what a draw does is one sentence.
     'draw: {
         'coefficients: for i in 0..coefficients::<S>() {
-            let at = at::<S>(i);
+            let place = at::<S>(i);
             let x: Shares<M> = 'candidates: loop {
                 match candidate(bits, limit, nonces, masks) {
                     Ok(Some(x)) => break 'candidates x,
                     Ok(None) => {}
                     Err(ended) => {
-                        let step = Step::Candidate(at);
+                        let step = Step::Candidate(place);
                         break 'draw Err(Halt { ended, step });
                     }
                 }
             };
-            match convert::<M, S, W>(x, masks) {
-                Ok(shares) => scatter(shares, y, n, i),
-                Err(mark) => {
-                    let ended = Ended::Masks(mark);
-                    let step = Step::Conversion(at);
-                    break 'draw Err(Halt { ended, step });
-                }
-            }
+            let shares = convert::<M, S, W>(x, masks).map_err(|mark| Halt {
+                ended: Ended::Masks(mark),
+                step: Step::Conversion(place),
+            })?;
+            scatter(shares, y, n, i);
         }
         Ok(())
     }

@@ -1,5 +1,5 @@
 // From residue shares to word shares, and back.
-ghost use Rattle.std.specs.Prelude.{◌≡◌, ◌+◌, ◌-◌, ◌*◌, ◌<◌, slice_index};
+ghost use Rattle.std.specs.Prelude.{◌≡◌, ◌+◌, ◌-◌, ◌*◌, ◌<◌};
 ghost use Rattle.words.specs.Spending.{Spends};
 ghost use Rattle.shares.specs.Rule.{Within};
 ghost use Rattle.shares.specs.Groups.{residue_rule, word_of, residue_of};
@@ -7,7 +7,7 @@ ghost use Rattle.shares.specs.Refresh.{pairs};
 
 use crate::modular::sec_add_modp;
 use linear::{each, public};
-use shares::{Group, Residues, Shares, Words, fresh, open};
+use shares::{Group, Residues, Shares, Words, draw_masks, fresh, open};
 use words::{Mark, Source};
 
 /// Word shares of the residue that `x` stands for. Each residue share is shared anew as a word, and these are added.
@@ -28,19 +28,6 @@ pub fn to_words<const M: usize, S: Source>(
     Ok(sum)
 }
 
-// Masks for all shares but the first, which stays 0.
-fn draw_masks<const M: usize, S: Source>(ring: Residues, src: &mut S) -> Result<Shares<M>, Mark>
-    requires some { 0 < M }
-    ensures { Spends ((residue_rule ring.p).cost * (M - 1)) result (S.flow src.old) (S.flow src.new) (λ z. Within (residue_rule ring.p) z × (slice_index z 0 ≡ 0)) }
-{
-    let mut out = [0; M];
-    // By index, since a slice or a skip would take the shares apart.
-    for i in 1..M {
-        out[i] = ring.mask(src)?;
-    }
-    Ok(out)
-}
-
 /// Residue shares of the word that `x` stands for. All shares but the first are masks; the first is what they leave of the word, opened.
 pub fn to_residues<const M: usize, S: Source>(
     x: Shares<M>,
@@ -51,7 +38,7 @@ pub fn to_residues<const M: usize, S: Source>(
     requires below { word_of x < ring.p }
     ensures { Spends ((residue_rule ring.p).cost * (M - 1) + (M + 1) * (33 * pairs M)) result (S.flow src.old) (S.flow src.new) (λ z. Within (residue_rule ring.p) z × (residue_of ring.p z ≡ word_of x.entry)) }
 {
-    let mut out = draw_masks(ring, src)?;
+    let mut out = draw_masks(&ring, src)?;
     let negatives = each(out, |share| ring.inverse(share));
     let less = to_words(negatives, ring, src)?;
     let rest = sec_add_modp(less, x, ring, src)?;

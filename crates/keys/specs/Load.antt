@@ -1,5 +1,5 @@
 -- A load's tests, the secret key in shares, and the public key.
-use Rattle.std.specs.Prelude.{◌≡◌, ℕ, zero, suc, ◌-◌, ◌*◌, ◌<◌, ◌≤◌, Bool, ◌&&◌, leb, List, [], ◌∷◌, ◌++◌, map, length, take, drop, ℤ, Some, None, Ok, Err, Option, Result, ◌==◌, nat_le, nat_lt, slice_index, unsigned_abs}
+use Rattle.std.specs.Prelude.{◌≡◌, ℕ, ◌-◌, ◌*◌, ◌<◌, ◌≤◌, Bool, ◌&&◌, leb, List, [], ◌∷◌, ◌++◌, map, length, take, drop, ℤ, Some, None, Ok, Err, Option, Result, ◌==◌, nat_le, nat_lt, slice_index, unsigned_abs}
 use Rattle.params.specs.Params.{Params}
 use Rattle.refusal.specs.declared.Area.TheVariants.{Public}
 use Rattle.refusal.specs.declared.Refusal.{Refusal}
@@ -7,7 +7,7 @@ use Rattle.refusal.specs.declared.Refusal.TheVariants.{ShareCount, AreaSize, Not
 use Rattle.refusal.specs.Tests.{unless, at_index, first_hit}
 use Rattle.ring.specs.Ring.{Residues, residue, plus, product}
 use Rattle.search.specs.First.{first_at}
-use Rattle.shares.specs.Rule.{Rule, Within, recombine}
+use Rattle.shares.specs.Rule.{Rule, Within, masks, recombine}
 use Rattle.shares.specs.Groups.{residue_rule}
 use Rattle.polys.specs.Area.{shares_of, recombined}
 
@@ -45,11 +45,6 @@ pub record Loadable (s : Params) (m : ℕ) (secret : List ℤ) (public key : Lis
 abbrev pub TestsLoad : {A : Type 0} → Params → ℕ → List ℤ → List ℕ → List ℕ → Result A Refusal → Type 0
 TestsLoad s m secret public key (Ok _) = (first_hit (load_tests s m secret public key) ≡ None) × Loadable s m secret public key
 TestsLoad s m secret public key (Err e) = first_hit (load_tests s m secret public key) ≡ Some e
-
--- the masks that words make, one after another
-abbrev pub masks : Rule → ℕ → List ℕ → List ℕ
-masks u zero ws = []
-masks u (suc k) ws = u.mask ws ∷ masks u k (drop u.cost ws)
 
 -- m shares of a value: the value less the sum of m − 1 masks, and then those masks
 unfoldable pub split : Rule → ℕ → List ℕ → ℕ → List ℕ

@@ -26,6 +26,7 @@ pub fn publish<S: ParamSet, M: Multiply<S>>(secret: &[i8], public: &mut [u32])
     ensures { public.new ≡ public_key S.params secret.now public.old }
 {
     let n = S::degree();
+    // Rooms for the largest set.
     let mut secret_room = [0; 2048];
     let mut t_room = [0; 1024];
     let residues = &mut secret_room[0..2 * n];

@@ -10,7 +10,7 @@ ghost use Rattle.shares.specs.Rule.{Within};
 use params::ParamSet;
 use polys::{coefficients, gather, scatter};
 use refusal::{Area, Refusal, check_residues};
-use shares::{Residues, Shares, at_share_count, refresh};
+use shares::{Residues, ShareCount, Shares, at_share_count, refresh};
 use words::{Mark, Metered, Source};
 
 /// A key area has its size, and each word is a residue.
@@ -61,28 +61,25 @@ fn remask_key<const M: usize, S: ParamSet, W: Source>(
 
 // The same at a share count that is known when the program runs.
 fn remask_shares<S: ParamSet, W: Source>(
-    shares: u8,
+    shares: ShareCount,
     key: &mut [u32],
     masks: &mut W,
 ) -> Result<(), Mark>
-    requires some { 0 < shares }
-    requires most { shares ≤ 8 }
-    requires area { KeyArea S.params shares key.old }
-    ensures { Remasks S.params shares result key.old key.new (W.flow masks.old) (W.flow masks.new) }
+    requires area { KeyArea S.params shares.count key.old }
+    ensures { Remasks S.params shares.count result key.old key.new (W.flow masks.old) (W.flow masks.new) }
 {
     at_share_count!(shares, remask_key::<_, S, W>(key, masks))
 }
 
 /// Refreshes the shares of each coefficient, those of s1 first, and tells how many words were taken.
+// A pair, since the count is promised of a remask that ends early too.
 pub fn remask_counted<S: ParamSet, W: Source>(
-    shares: u8,
+    shares: ShareCount,
     key: &mut [u32],
     masks: &mut W,
 ) -> (Result<(), Mark>, u64)
-    requires some { 0 < shares }
-    requires most { shares ≤ 8 }
-    requires area { KeyArea S.params shares key.old }
-    ensures remasks { Remasks S.params shares result.0 key.old key.new (W.flow masks.old) (W.flow masks.new) }
+    requires area { KeyArea S.params shares.count key.old }
+    ensures remasks { Remasks S.params shares.count result.0 key.old key.new (W.flow masks.old) (W.flow masks.new) }
     ensures count { result.1 ≡ length (W.flow masks.old).words - length (W.flow masks.new).words }
 {
     let mut meter = Metered::new(masks);

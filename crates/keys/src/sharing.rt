@@ -1,5 +1,5 @@
 // The secret key in shares.
-ghost use Rattle.std.specs.Prelude.{◌≡◌, ℕ, ◌+◌, ◌-◌, ◌*◌, ◌/◌, ◌<◌, ◌≤◌, ◌≢◌, length, replicate};
+ghost use Rattle.std.specs.Prelude.{◌≡◌, ℕ, ◌+◌, ◌-◌, ◌*◌, ◌/◌, ◌<◌, ◌≤◌, ◌≢◌, length, replicate, IfOk};
 ghost use Rattle.keys.specs.Load.{Holds, Splits, TestsLoad, load_cost, not_ternary};
 ghost use Rattle.polys.specs.Area.{shares_of};
 ghost use Rattle.ring.specs.Ring.{residue};
@@ -12,7 +12,7 @@ use params::ParamSet;
 use polys::scatter;
 use refusal::{Area, Refusal, check_residues};
 use ring::to_residue;
-use shares::{Residues, Shares, at_share_count};
+use shares::{Residues, ShareCount, Shares, at_share_count};
 use words::{Mark, Metered, Source};
 
 fn is_not_ternary(coefficient: i8) -> bool
@@ -30,19 +30,18 @@ fn first_not_ternary(secret: &[i8]) -> Option<usize>
         .position(|coefficient| is_not_ternary(*coefficient))
 }
 
-/// The tests of a load.
+/// The tests of a load, and its share count.
 pub fn check_load<S: ParamSet>(
     shares: u8,
     secret: &[i8],
     public: &[u32],
     key: &[u32],
-) -> Result<(), Refusal>
-    ensures { TestsLoad S.params shares secret.now public.now key.now result }
+) -> Result<ShareCount, Refusal>
+    ensures tests { TestsLoad S.params shares secret.now public.now key.now result }
+    ensures count { IfOk result (λ tested. tested.count ≡ shares) }
 {
     let n = S::degree();
-    if shares < 1 || shares > 8 {
-        return Err(Refusal::ShareCount);
-    }
+    let count = ShareCount::new(shares).ok_or(Refusal::ShareCount)?;
     if public.len() != 2 * n || secret.len() != 2 * n || key.len() != 2 * shares as usize * n {
         return Err(Refusal::AreaSize);
     }
@@ -50,7 +49,7 @@ pub fn check_load<S: ParamSet>(
     // A match, since what is found is the error.
     match first_not_ternary(secret) {
         Some(index) => Err(Refusal::NotTernary { index }),
-        None => Ok(()),
+        None => Ok(count),
     }
 }
 
@@ -109,32 +108,29 @@ fn load_key<const M: usize, S: ParamSet, W: Source>(
 
 // The same at a share count that is known when the program runs.
 fn load_shares<S: ParamSet, W: Source>(
-    shares: u8,
+    shares: ShareCount,
     secret: &[i8],
     key: &mut [u32],
     masks: &mut W,
 ) -> Result<(), Mark>
-    requires some { 0 < shares }
-    requires most { shares ≤ 8 }
     requires secret { length secret.now ≡ 2 * S.params.n }
-    requires sized { length key.old ≡ 2 * shares * S.params.n }
-    ensures { Spends (load_cost S.params shares) result (W.flow masks.old) (W.flow masks.new) (λ _. Holds S.params shares secret.now (W.flow masks.old).words key.new) }
+    requires sized { length key.old ≡ 2 * shares.count * S.params.n }
+    ensures { Spends (load_cost S.params shares.count) result (W.flow masks.old) (W.flow masks.new) (λ _. Holds S.params shares.count secret.now (W.flow masks.old).words key.new) }
 {
     at_share_count!(shares, load_key::<_, S, W>(secret, key, masks))
 }
 
 /// Puts shares of each coefficient into the key area, those of s1 first, and tells how many words were taken.
+// A pair, since the count is promised of a load that ends early too.
 pub fn load_counted<S: ParamSet, W: Source>(
-    shares: u8,
+    shares: ShareCount,
     secret: &[i8],
     key: &mut [u32],
     masks: &mut W,
 ) -> (Result<(), Mark>, u64)
-    requires some { 0 < shares }
-    requires most { shares ≤ 8 }
     requires secret { length secret.now ≡ 2 * S.params.n }
-    requires sized { length key.old ≡ 2 * shares * S.params.n }
-    ensures holds { Spends (load_cost S.params shares) result.0 (W.flow masks.old) (W.flow masks.new) (λ _. Holds S.params shares secret.now (W.flow masks.old).words key.new) }
+    requires sized { length key.old ≡ 2 * shares.count * S.params.n }
+    ensures holds { Spends (load_cost S.params shares.count) result.0 (W.flow masks.old) (W.flow masks.new) (λ _. Holds S.params shares.count secret.now (W.flow masks.old).words key.new) }
     ensures count { result.1 ≡ length (W.flow masks.old).words - length (W.flow masks.new).words }
 {
     let mut meter = Metered::new(masks);

@@ -24,6 +24,7 @@ pub fn xor<const M: usize>(x: Shares<M>, y: Shares<M>) -> Shares<M>
     ensures { word_of result ≡ bit_xor (word_of x.entry) (word_of y.entry) }
 {
     let mut out = x;
+    // By index into the other array, since after a zip over `iter_mut` nothing is known of what was written.
     for (i, share) in out.iter_mut().enumerate() {
         *share ^= y[i];
     }

@@ -27,6 +27,7 @@ fn place(n: usize, m: usize, c: usize, i: usize) -> usize
 }
 
 /// The shares of coefficient c.
+// This and `scatter` take n, which need be no set's degree.
 pub fn gather<const M: usize>(area: &[u32], n: usize, c: usize) -> Shares<M>
     requires small { (0 < n) × ((n ≤ 1024) × (M ≤ 8)) }
     requires inside { (c / n + 1) * M * n ≤ length area.now }
@@ -40,6 +41,7 @@ pub fn gather<const M: usize>(area: &[u32], n: usize, c: usize) -> Shares<M>
 }
 
 /// The shares of coefficient c of an area of residues.
+// Beside the method of `Shared`, since it holds for an area of any length with room for c.
 pub fn coefficient<const M: usize, S: ParamSet>(area: &[u32], c: usize) -> Shares<M>
     requires most { M ≤ 8 }
     requires inside { (c / S.params.n + 1) * M * S.params.n ≤ length area.now }

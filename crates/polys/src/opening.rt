@@ -14,12 +14,12 @@ use shares::open;
 use words::{Mark, Source};
 
 /// Opens coefficient c of an area of residues.
+// Beside the method of `Shared`, as `coefficient` is.
 pub fn open_coefficient<const M: usize, S: ParamSet, W: Source>(
     area: &[u32],
     c: usize,
     masks: &mut W,
 ) -> Result<u32, Mark>
-    requires some { 0 < M }
     requires most { M ≤ 8 }
     requires inside { (c / S.params.n + 1) * M * S.params.n ≤ length area.now }
     requires residues { Residues S.params.p area.now }

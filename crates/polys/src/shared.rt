@@ -21,7 +21,7 @@ pub struct Shared<'a, const K: usize, const M: usize, S: ParamSet> {
     pub ghost residues: { Residues S.params.p area.now },
 }
 
-// By hand, since no derive goes over facts of what is lent.
+// By hand: no derive copies a struct that has ghost fields and a type parameter.
 impl<'a, const K: usize, const M: usize, S: ParamSet> Clone for Shared<'a, K, M, S> {
     ghost is_clone = { λ x y. y ≡ x };
 

@@ -1,5 +1,5 @@
 -- When bytes are refused as a record, and what a reader answers.
-use Rattle.std.specs.Prelude.{◌≡◌, ℕ, ◌-◌, Bool, true, not, ◌&&◌, List, [], ◌∷◌, length, drop, ℤ, Some, None, Ok, Err, Option, Result, ◌==◌, nat_eq, nat_lt, unsigned_abs}
+use Rattle.std.specs.Prelude.{◌≡◌, ℕ, ◌+◌, ◌-◌, ◌*◌, Bool, true, not, ◌&&◌, List, [], ◌∷◌, length, take, drop, ℤ, Some, None, Ok, Err, Option, Result, ◌==◌, nat_eq, nat_lt, unsigned_abs}
 use Rattle.std.specs.Borrow.{Bor}
 use Rattle.params.specs.Params.{Params, reach}
 use Rattle.refusal.specs.declared.Refusal.{Refusal}
@@ -39,6 +39,14 @@ record_tests s bytes = size_test s bytes ∷ kind_test s bytes ∷ reach_test s 
 abbrev pub Opens : Params → List ℕ → Result (Bor (List ℕ)) Refusal → Type 0
 Opens s bytes (Ok body) = (size_test s bytes ≡ None) × (kind_test s bytes ≡ None) × (length bytes ≡ size s) × (body.now ≡ drop 6 bytes)
 Opens s bytes (Err e) = first_hit (size_test s bytes ∷ kind_test s bytes ∷ []) ≡ Some e
+
+-- the parts of a body, each where it lies
+abbrev pub Parts : Params → List ℕ → Record → Type 0
+Parts s body r =
+    (r.counter ≡ num2 body 0)
+    × (r.digest.now ≡ take 32 (drop 2 body))
+    × (r.z.now ≡ take (4 * s.n) (drop 34 body))
+    × (r.challenge.now ≡ drop (34 + 4 * s.n) body)
 
 -- the reader answers the parts of a record that passes, or the first refusal; what it accepts is what the writer would write
 abbrev pub Reads : Params → List ℕ → Result Record Refusal → Type 0

@@ -12,7 +12,7 @@ pub mod view;
 mod writer;
 
 pub use reader::read;
-pub use view::Record;
+pub use view::{Record, codes};
 pub use writer::write;
 
 // How many bytes a record of the set has.

@@ -1,16 +1,15 @@
 // The reader: the tests of a record in their order, and then its parts.
 ghost use Rattle.params.specs.Params.{reach};
 ghost use Rattle.record.specs.Layout.{num2, num4, size, unpacked, z_of};
-ghost use Rattle.record.specs.Reading.{Opens, Reads, far};
+ghost use Rattle.record.specs.Reading.{Opens, Parts, Reads, far};
 ghost use Rattle.refusal.specs.declared.Refusal.TheVariants.{OutOfReach, UnusedCode};
 ghost use Rattle.refusal.specs.Tests.{Tested, at_index};
 ghost use Rattle.search.specs.First.{first_at};
-ghost use Rattle.std.specs.Prelude.{◌≡◌, ℕ, ◌+◌, ◌*◌, ◌/◌, ◌%◌, ◌^◌, ◌<◌, ◌≤◌, List, [], ◌∷◌, length, take, drop, Some, None, MatchOption, ◌==◌, nat_eq};
+ghost use Rattle.std.specs.Prelude.{◌≡◌, ℕ, ◌+◌, ◌*◌, ◌/◌, ◌%◌, ◌^◌, ◌<◌, ◌≤◌, [], ◌∷◌, length, take, drop, Some, None, MatchOption, IsSomeAnd, ◌==◌, nat_eq};
 ghost use Rattle.std.specs.Int.{w16};
 ghost use Rattle.std.proofs.Common.{to_z};
 
-use crate::view::codes;
-use crate::{Record, kind, size};
+use crate::{Record, codes, kind, size};
 use params::ParamSet;
 use refusal::Refusal;
 
@@ -61,14 +60,10 @@ fn first_unused_in(byte: u8) -> Option<usize>
 fn check_reach<S: ParamSet>(z: &[u8]) -> Result<(), Refusal>
     ensures { Tested (at_index OutOfReach (first_at (far S.params) (z_of z.now))) result }
 {
-    // A match, since what is found is the error.
-    match first_far::<S>(z) {
-        Some(index) => Err(Refusal::OutOfReach { index }),
-        None => Ok(()),
-    }
+    first_far::<S>(z).map_or(Ok(()), |index| Err(Refusal::OutOfReach { index }))
 }
 
-// No code of the challenge means nothing.
+// No code of the challenge means nothing. A loop, since `find_map` would add the two places up in a closure within a closure.
 fn check_codes(challenge: &[u8]) -> Result<(), Refusal>
     requires { length challenge.now ≤ 2 ^ 40 }
     ensures { Tested (at_index UnusedCode (first_at (λ code. nat_eq code 2) (unpacked challenge.now))) result }
@@ -97,23 +92,20 @@ fn open_body<S: ParamSet>(bytes: &[u8]) -> Result<&[u8], Refusal>
     Ok(head.rest)
 }
 
-// The parts of a body, each where it lies.
-fn split_body<S: ParamSet>(body: &[u8]) -> Record<'_>
+// The parts of a body, each where it lies. A body of its size has them all.
+fn split_body<S: ParamSet>(body: &[u8]) -> Option<Record<'_>>
     requires { length body.now + 6 ≡ size S.params }
-    ensures counter { result.counter ≡ num2 body.now 0 }
-    ensures digest { result.digest.now ≡ take 32 (drop 2 body.now) }
-    ensures z { result.z.now ≡ take (4 * S.params.n) (drop 34 body.now) }
-    ensures challenge { result.challenge.now ≡ drop (34 + 4 * S.params.n) body.now }
+    ensures { IsSomeAnd result (Parts S.params body.now) }
 {
-    let (counter, rest) = body.split_at(2);
-    let (digest, rest) = rest.split_at(32);
+    let (counter, rest) = body.split_first_chunk::<2>()?;
+    let (digest, rest) = rest.split_first_chunk::<32>()?;
     let (z, challenge) = rest.split_at(4 * S::degree());
-    Record {
-        counter: u16::from_le_bytes([counter[0], counter[1]]),
+    Some(Record {
+        counter: u16::from_le_bytes(*counter),
         digest,
         z,
         challenge,
-    }
+    })
 }
 
 // A record's parts, or the first refusal.
@@ -121,7 +113,7 @@ pub fn read<S: ParamSet>(bytes: &[u8]) -> Result<Record<'_>, Refusal>
     ensures { Reads S.params bytes.now result }
 {
     let body = open_body::<S>(bytes)?;
-    let record = split_body::<S>(body);
+    let record = split_body::<S>(body).ok_or(Refusal::RecordSize)?;
     check_reach::<S>(record.z)?;
     check_codes(record.challenge)?;
     Ok(record)

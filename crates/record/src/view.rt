@@ -5,7 +5,7 @@ ghost use Rattle.std.specs.Prelude.{◌≡◌, [], ◌∷◌};
 #[derive(Drop)]
 pub struct Record<'a> {
     pub counter: u16,
-    pub digest: &'a [u8],
+    pub digest: &'a [u8; 32],
     // z1 and then z2, two bytes a coefficient
     pub z: &'a [u8],
     // four coefficients a byte
@@ -16,5 +16,5 @@ pub struct Record<'a> {
 pub fn codes(byte: u8) -> [u8; 4]
     ensures { result ≡ unpacked (byte ∷ []) }
 {
-    [byte & 3, byte >> 2 & 3, byte >> 4 & 3, byte >> 6]
+    [byte & 3, (byte >> 2) & 3, (byte >> 4) & 3, byte >> 6]
 }

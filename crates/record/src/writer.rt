@@ -1,7 +1,7 @@
 // The writer: the fields of a record into the area lent for it.
 ghost use Rattle.record.specs.Layout.{code_of, kind, le2, le4, packed, size, z_bytes};
 ghost use Rattle.record.specs.Writing.{ReadsBack, answered, content_of, left_in};
-ghost use Rattle.std.specs.Prelude.{◌≡◌, ℕ, ◌+◌, ◌-◌, ◌*◌, ◌<◌, ◌&&◌, ◌++◌, map, length, ◌==◌};
+ghost use Rattle.std.specs.Prelude.{◌≡◌, ℕ, ◌+◌, ◌-◌, ◌*◌, ◌<◌, ◌&&◌, ◌++◌, map, length, slice_index, ◌==◌};
 
 use crate::{kind, size};
 use params::ParamSet;
@@ -36,22 +36,23 @@ fn code(residue: u32) -> u8
 }
 
 // Four codes in a byte, the first in the lowest bits.
-fn pack(a: u8, b: u8, c: u8, d: u8) -> u8
-    requires { (a < 4) × ((b < 4) × ((c < 4) × (d < 4))) }
-    ensures { result ≡ a + 4 * b + 16 * c + 64 * d }
+fn pack(codes: [u8; 4]) -> u8
+    requires { (slice_index codes 0 < 4) × (slice_index codes 1 < 4) × (slice_index codes 2 < 4) × (slice_index codes 3 < 4) }
+    ensures { result ≡ slice_index codes 0 + 4 * slice_index codes 1 + 16 * slice_index codes 2 + 64 * slice_index codes 3 }
 {
+    let [a, b, c, d] = codes;
     a + 4 * b + 16 * c + 64 * d
 }
 
 // Four coefficients a byte, by place as above.
-fn write_challenge(part: &mut [u8], c: &[u32])
-    requires { length c.now ≡ 4 * length part.old }
-    ensures { part.new ≡ packed (map code_of c.now) }
+fn write_challenge(part: &mut [u8], residues: &[u32])
+    requires { length residues.now ≡ 4 * length part.old }
+    ensures { part.new ≡ packed (map code_of residues.now) }
 {
-    let (fours, _) = c.as_chunks::<4>();
+    let (fours, _) = residues.as_chunks::<4>();
     for (i, byte) in part.iter_mut().enumerate() {
         let [a, b, c, d] = fours[i];
-        *byte = pack(code(a), code(b), code(c), code(d));
+        *byte = pack([code(a), code(b), code(c), code(d)]);
     }
 }
 

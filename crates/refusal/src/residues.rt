@@ -8,9 +8,5 @@ use search::first_at_least;
 pub fn check_residues(area: Area, words: &[u32], modulus: u32) -> Result<(), Refusal>
     ensures { TestsResidues area modulus words.now result }
 {
-    // A match, here and for other tests: `ok_or` goes from a value to an error, and this the other way.
-    match first_at_least(words, modulus) {
-        Some(index) => Err(Refusal::NotResidue { area, index }),
-        None => Ok(()),
-    }
+    first_at_least(words, modulus).map_or(Ok(()), |index| Err(Refusal::NotResidue { area, index }))
 }

@@ -1,7 +1,7 @@
 // Residues modulo p, and polynomials of n residues modulo xⁿ + 1, for any parameter set.
 #![tactic(auto)]
 
-ghost use Rattle.std.specs.Prelude.{◌≡◌, ⊤, ◌+◌, ◌-◌, ◌*◌, ◌%◌, ◌^◌, ◌<◌, length, replicate, if◌then◌else◌, nat_le};
+ghost use Rattle.std.specs.Prelude.{◌≡◌, ⊤, ◌+◌, ◌-◌, ◌*◌, ◌%◌, ◌^◌, ◌<◌, length, if◌then◌else◌, nat_le};
 ghost use Rattle.ring.specs.Ring.{negate, residue, centre, Residues, reduced, zip_with, plus, minus, last_of, shift_in, times_x, zeros, product};
 ghost use Rattle.ring.specs.Laws.{Proper, RingLaws, CentringLaws};
 
@@ -9,8 +9,8 @@ use params::ParamSet;
 use std::alloc::AllocError;
 use std::marker::PhantomData;
 
-// The most coefficients that a set may have.
-const MOST: usize = 1024;
+// The most coefficients that a set may have, for rooms that hold a polynomial of any set.
+pub const MOST: usize = 1024;
 
 // What the definitions come to: a commutative ring with xⁿ = −1, and residues for integers near 0.
 pub fn laws_hold()
@@ -30,12 +30,14 @@ impl<'a, S: ParamSet> Poly<'a, S> {
         requires { Proper S.params.n S.params.p words.now }
         ensures { result.words.now ≡ words.now }
     {
-        let set = PhantomData;
-        Poly { words, set }
+        Poly {
+            words,
+            set: PhantomData,
+        }
     }
 }
 
-// By hand: a derive would ask that S be Copy.
+// By hand: no derive copies a struct that has ghost fields and a type parameter.
 impl<'a, S: ParamSet> Clone for Poly<'a, S> {
     ghost is_clone = { λ x y. y ≡ x };
 
@@ -102,7 +104,8 @@ fn sub<S: ParamSet>(x: u32, y: u32) -> u32
     reduce_once::<S>(x + (S::modulus() - y))
 }
 
-// Adds the polynomial x to acc. Here and below a loop that writes one slice and reads another goes by `enumerate`: after a `zip` over `iter_mut` a proof knows nothing of what was written.
+// Adds the polynomial x to acc. Here and below a loop that writes one slice and reads another goes by `enumerate`: after a `zip`
+// over `iter_mut` a proof knows nothing of what was written.
 pub fn add_assign<S: ParamSet>(acc: &mut [u32], x: Poly<'_, S>)
     requires { Proper S.params.n S.params.p acc.old }
     ensures value { acc.new ≡ plus S.params.p acc.old x.entry.words.now }
@@ -124,7 +127,8 @@ pub fn sub_assign<S: ParamSet>(acc: &mut [u32], x: Poly<'_, S>)
     }
 }
 
-// A way to multiply two polynomials of the set S. An impl writes `multiply_words`, and callers call `multiply`: a method that an impl writes gets no proof if it takes a type of S.
+// A way to multiply two polynomials of the set S. An impl writes `multiply_words`, and callers call `multiply`: a method that an
+// impl writes gets no proof if it takes a type of S.
 pub trait Multiply<S: ParamSet> {
     fn multiply_words(out: &mut [u32], a: &[u32], b: &[u32])
         requires out { length out.old ≡ S.params.n }
@@ -179,7 +183,8 @@ fn times_x<S: ParamSet>(b: &mut [u32])
     shift_in(b, negated::<S>(top));
 }
 
-// Sums a's coefficients times b, x · b, x² · b and so on. A sum of n products stays below 2⁵⁸, so it is reduced once, at the end.
+// Sums a's coefficients times b, x · b, x² · b and so on. A sum of n products stays below 2⁵⁸, so it is reduced once, at the
+// end.
 fn accumulate<S: ParamSet>(acc: &mut [u64], a: Poly<'_, S>, b: &mut [u32])
     requires room { length acc.old ≡ S.params.n }
     requires empty { acc.old ≡ zeros acc.old }

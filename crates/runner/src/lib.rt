@@ -83,10 +83,10 @@ fn take_line<W: Write>(
             *world = Some(World::new(heap, set)?);
             Ok(())
         }
-        Command::Act(action) => match world {
-            Some(world) => carry_out(out, heap, world, action),
-            None => Err(Failed::NotUnderstood),
-        },
+        Command::Act(action) => {
+            let world = world.as_mut().ok_or(Failed::NotUnderstood)?;
+            carry_out(out, heap, world, action)
+        }
     }
 }
 
@@ -95,7 +95,7 @@ fn carry_all(rt: &HostRuntime) -> io::Result<()> {
     let mut out = BufWriter::new(heap, rt.stdout())?;
     let mut world = None;
     let lines = BufReader::new(heap, rt.stdin())?.split(heap, b'\n');
-    'lines: for (number, line) in (1..=u64::MAX).zip(lines) {
+    for (number, line) in (1..=u64::MAX).zip(lines) {
         match take_line(&mut out, heap, &mut world, line?.as_slice()) {
             Ok(()) => {}
             Err(Failed::NotUnderstood) => writeln!(out, "line {number} not understood")?,

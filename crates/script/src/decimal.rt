@@ -1,23 +1,24 @@
 // Decimal numbers.
-ghost use Rattle.std.specs.Prelude.{◌≡◌, ◌≢◌, ℕ, List, MatchOption, slice_index};
+ghost use Rattle.std.specs.Prelude.{◌≡◌, ◌≢◌, ℕ, List, MatchResult, slice_index};
 ghost use Rattle.script.specs.Answers.{Reads};
 ghost use Rattle.script.specs.Words.{Decimal, Integer, Number, Writes};
 ghost use Rattle.std.specs.Option.{SomeIff};
 ghost use Rattle.std.specs.Str.Iter.{LacksByte};
 ghost use Rattle.std.specs.Str.Parse.{digits_value};
+ghost use Rattle.script.specs.declared.unread.Unread.TheVariants.{NotUnderstood};
 ghost use Rattle.script.specs.Integers.{number_solid, integer_solid};
 
 use crate::unread::Unread;
 use std::alloc::Global;
 
 // A word with no plus sign in front, which `parse` would take.
-fn unsigned(word: &str) -> Option<&str>
-    ensures { MatchOption result (slice_index word.now 0 ≡ 43) (λ plain. (plain.now ≡ word.now) × (slice_index word.now 0 ≢ 43)) }
+fn without_plus(word: &str) -> Result<&str, Unread>
+    ensures { MatchResult result (λ plain. (plain.now ≡ word.now) × (slice_index word.now 0 ≢ 43)) (λ unread. (slice_index word.now 0 ≡ 43) × (unread ≡ NotUnderstood)) }
 {
     if word.starts_with('+') {
-        None
+        Err(Unread::NotUnderstood)
     } else {
-        Some(word)
+        Ok(word)
     }
 }
 
@@ -25,7 +26,7 @@ fn unsigned(word: &str) -> Option<&str>
 pub fn number(word: &str, max: u64) -> Option<u64>
     ensures { SomeIff result (Decimal max word.now) (digits_value 10 word.now) }
 {
-    match unsigned(word)?.parse::<u64>() {
+    match without_plus(word).ok()?.parse::<u64>() {
         Ok(number) if number <= max => Some(number),
         _ => None,
     }
@@ -49,7 +50,7 @@ impl Entry for u8 {
     ghost solid = { number_solid 255 };
 
     fn read(word: &str) -> Result<u8, Unread> {
-        Ok(number(word, u64::from(u8::MAX)).ok_or(Unread::NotUnderstood)? as u8)
+        Ok(without_plus(word)?.parse::<u8>()?)
     }
 }
 
@@ -59,7 +60,7 @@ impl Entry for u16 {
     ghost solid = { number_solid 65535 };
 
     fn read(word: &str) -> Result<u16, Unread> {
-        Ok(number(word, u64::from(u16::MAX)).ok_or(Unread::NotUnderstood)? as u16)
+        Ok(without_plus(word)?.parse::<u16>()?)
     }
 }
 
@@ -70,7 +71,7 @@ impl Entry for u32 {
     ghost solid = { number_solid 4294967295 };
 
     fn read(word: &str) -> Result<u32, Unread> {
-        Ok(number(word, u64::from(u32::MAX)).ok_or(Unread::NotUnderstood)? as u32)
+        Ok(without_plus(word)?.parse::<u32>()?)
     }
 }
 
@@ -80,7 +81,7 @@ impl Entry for u64 {
     ghost solid = { number_solid 18446744073709551615 };
 
     fn read(word: &str) -> Result<u64, Unread> {
-        number(word, u64::MAX).ok_or(Unread::NotUnderstood)
+        Ok(without_plus(word)?.parse::<u64>()?)
     }
 }
 
@@ -90,7 +91,7 @@ impl Entry for usize {
     ghost solid = { number_solid 18446744073709551615 };
 
     fn read(word: &str) -> Result<usize, Unread> {
-        Ok(number(word, usize::MAX as u64).ok_or(Unread::NotUnderstood)? as usize)
+        Ok(without_plus(word)?.parse::<usize>()?)
     }
 }
 
@@ -101,7 +102,7 @@ impl Entry for i8 {
     ghost solid = { integer_solid };
 
     fn read(word: &str) -> Result<i8, Unread> {
-        Ok(unsigned(word).ok_or(Unread::NotUnderstood)?.parse::<i8>()?)
+        Ok(without_plus(word)?.parse::<i8>()?)
     }
 }
 

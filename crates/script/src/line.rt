@@ -48,7 +48,7 @@ fn one<T: Entry>(rest: Option<&str>) -> Result<T, Unread>
     T::read(rest.ok_or(Unread::NotUnderstood)?)
 }
 
-// The area of a name.
+// The area of a name. No `FromStr`: `Area` is another crate's, which would need an error type for this one use.
 fn named_area(name: &str) -> Result<Area, Unread>
     ensures { IfOk result (λ area. name.now ≡ area_name area) }
 {
@@ -120,10 +120,7 @@ fn fill(heap: Global, stream: Stream, rest: Option<&str>) -> Result<Action, Unre
 fn new_till(rest: Option<&str>) -> Result<Action, Unread>
     ensures { IfOk result (Asks (spaced (codes "till") rest.entry)) }
 {
-    match rest {
-        None => Ok(Action::NewTill(None)),
-        Some(word) => Ok(Action::NewTill(Some(u16::read(word)?))),
-    }
+    Ok(Action::NewTill(rest.map(u16::read).transpose()?))
 }
 
 fn check(heap: Global, rest: Option<&str>) -> Result<Call, Unread>
@@ -175,27 +172,25 @@ fn repeat(heap: Global, rest: Option<&str>) -> Result<Action, Unread>
 fn action(heap: Global, text: &str) -> Result<Action, Unread>
     ensures { IfOk result (Asks text.now) }
 {
-    if text == "load" {
-        return Ok(Action::Load);
-    }
-    let (word, rest) = first_word(text);
-    match word {
-        "a" => Ok(Action::WordsOfA(listed::<u32>(heap, rest)?)),
-        "t" => Ok(Action::WordsOfT(listed::<u32>(heap, rest)?)),
-        "secret" => Ok(Action::Secret(listed::<i8>(heap, rest)?)),
-        "shares" => Ok(Action::Shares(one::<u8>(rest)?)),
-        "nonces" => fill(heap, Stream::Nonces, rest),
-        "masks" => fill(heap, Stream::Masks, rest),
-        "work" => Ok(Action::Work(one::<u32>(rest)?)),
-        "room" => Ok(Action::Room(one::<u32>(rest)?)),
-        "poke" => poke(rest),
-        "show" => show(rest),
-        "till" => new_till(rest),
-        "repeat" => repeat(heap, rest),
+    match first_word(text) {
+        ("load", None) => Ok(Action::Load),
+        ("a", rest) => Ok(Action::WordsOfA(listed::<u32>(heap, rest)?)),
+        ("t", rest) => Ok(Action::WordsOfT(listed::<u32>(heap, rest)?)),
+        ("secret", rest) => Ok(Action::Secret(listed::<i8>(heap, rest)?)),
+        ("shares", rest) => Ok(Action::Shares(one::<u8>(rest)?)),
+        ("nonces", rest) => fill(heap, Stream::Nonces, rest),
+        ("masks", rest) => fill(heap, Stream::Masks, rest),
+        ("work", rest) => Ok(Action::Work(one::<u32>(rest)?)),
+        ("room", rest) => Ok(Action::Room(one::<u32>(rest)?)),
+        ("poke", rest) => poke(rest),
+        ("show", rest) => show(rest),
+        ("till", rest) => new_till(rest),
+        ("repeat", rest) => repeat(heap, rest),
         _ => Ok(Action::Once(call(heap, text)?)),
     }
 }
 
+// The set of a name. No `FromStr`: for this one use it is the same match with its own clauses around it.
 fn start(name: &str) -> Result<Command, Unread>
     ensures { IfOk result (Says (codes "set " ++ name.now)) }
 {

@@ -29,6 +29,7 @@ impl<T: Drop> From<AllocFailed<T>> for Unread {
     }
 }
 
+// Three impls that differ in a type: no macro may write an impl with a ghost member.
 impl From<ParseIntError> for Unread {
     ghost from_gives = { λ _ r. r ≡ NotUnderstood };
 

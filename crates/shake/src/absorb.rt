@@ -1,4 +1,4 @@
-ghost use Rattle.std.specs.Prelude.{◌≡◌, ℕ, ◌%◌, List, [], ◌∷◌, ◌++◌, length};
+ghost use Rattle.std.specs.Prelude.{◌≡◌, ℕ, ◌%◌, List, [], ◌∷◌, ◌++◌};
 ghost use Rattle.shake.specs.Progress.{Absorbing, Reading};
 
 use crate::block::{RATE, xor_byte};
@@ -37,15 +37,15 @@ impl Shake256 {
         ensures { (m : List ℕ) → Absorbing m self.old → Absorbing (m ++ bytes.now) self.new }
     {
         let mut rest = bytes;
-        while let [byte, behind @ ..] = rest {
-            rest = match rest.split_first_chunk() {
-                Some((lane, behind)) if self.sponge.pos % 8 == 0 => {
+        while let [byte, after_byte @ ..] = rest {
+            rest = match rest.split_first_chunk::<8>() {
+                Some((lane, after_lane)) if self.sponge.pos % 8 == 0 => {
                     self.absorb_lane(lane);
-                    behind
+                    after_lane
                 }
                 _ => {
                     self.absorb_byte(*byte);
-                    behind
+                    after_byte
                 }
             };
         }

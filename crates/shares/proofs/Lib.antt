@@ -4,3 +4,4 @@ pub mod Boolean
 pub mod Folding
 mod Products
 mod Crossing
+mod Drawing

@@ -1,5 +1,5 @@
 -- A commutative group on the numbers below an order, values shared in it, and masks made of a source's words.
-use Rattle.std.specs.Prelude.{◌≡◌, ℕ, ◌<◌, List, [], ◌∷◌, length, slice_index}
+use Rattle.std.specs.Prelude.{◌≡◌, ℕ, zero, suc, ◌<◌, List, [], ◌∷◌, length, drop, slice_index}
 
 -- the group's operation, inverse and unit; and the mask that the first `cost` of a source's words make
 pub record Rule : Type 0 where
@@ -32,3 +32,8 @@ recombine u (x ∷ xs) = u.op x (recombine u xs)
 -- r is the mask that these words make
 abbrev pub Masks : Rule → List ℕ → ℕ → Type 0
 Masks u ws r = (r < u.order) × (r ≡ u.mask ws)
+
+-- the masks that words make, one after another
+abbrev pub masks : Rule → ℕ → List ℕ → List ℕ
+masks u zero ws = []
+masks u (suc k) ws = u.mask ws ∷ masks u k (drop u.cost ws)

@@ -12,6 +12,7 @@ fn share_products<const M: usize>(x: Shares<M>, y: Shares<M>) -> Shares<M>
     ensures { result ≡ products x.entry y.entry }
 {
     let mut out = x;
+    // By index into the other array, since after a zip over `iter_mut` nothing is known of what was written.
     for (i, share) in out.iter_mut().enumerate() {
         *share &= y[i];
     }

@@ -2,17 +2,19 @@
 // Crates above work share by share, or call these.
 #![tactic(auto)]
 
-ghost use Rattle.std.specs.Prelude.{◌≡◌, ℕ, ◌*◌, ◌<◌, length};
+ghost use Rattle.std.specs.Prelude.{◌≡◌, ℕ, ◌-◌, ◌*◌, ◌<◌, ◌∷◌};
 ghost use Rattle.words.specs.Spending.{Spends};
-ghost use Rattle.shares.specs.Rule.{Rule, Laws, Within, Masks, recombine};
+ghost use Rattle.shares.specs.Rule.{Rule, Laws, Within, Masks, masks, recombine};
 ghost use Rattle.shares.specs.Refresh.{pairs, rows, refreshed, Pair, Refreshed};
 
 pub mod conjunction;
+pub mod count;
 pub mod groups;
 pub mod opening;
 pub mod residues;
 
 pub use conjunction::sec_and;
+pub use count::ShareCount;
 pub use groups::Words;
 pub use opening::{open, recombine};
 pub use residues::Residues;
@@ -22,11 +24,11 @@ use words::{Mark, Source};
 // Only functions that read or write a first share ask for `0 < M`; xor, sec_and and others hold for no share too, so a type that carried it would ask more.
 pub type Shares<const M: usize> = [u32; M];
 
-/// A call at a share count from 1 to 8 that is known when the program runs, as `at_share_count!(shares, sign::<_, S>(key))`.
+/// A call at a share count that is known when the program runs, as `at_share_count!(shares, sign::<_, S>(key))`.
 #[macro_export]
 macro_rules! at_share_count {
     ($shares:expr, $call:ident::<_ $(, $kind:ty)*>($($argument:expr),* $(,)?)) => {
-        match $shares {
+        match $shares.count {
             1 => $call::<1 $(, $kind)*>($($argument),*),
             2 => $call::<2 $(, $kind)*>($($argument),*),
             3 => $call::<3 $(, $kind)*>($($argument),*),
@@ -60,6 +62,24 @@ pub trait Group {
     // An element made of the next words of a source.
     fn mask<S: Source>(&self, src: &mut S) -> Result<u32, Mark>
         ensures { Spends (rule self.now).cost result (S.flow src.old) (S.flow src.new) (Masks (rule self.now) (S.flow src.old).words) };
+}
+
+/// The unit, and then masks in the places behind it.
+pub fn draw_masks<const M: usize, G: Group, S: Source>(
+    g: &G,
+    src: &mut S,
+) -> Result<Shares<M>, Mark>
+    requires some { 0 < M }
+    ensures { Spends ((G.rule g.now).cost * (M - 1)) result (S.flow src.old) (S.flow src.new) (λ xs. (xs ≡ (G.rule g.now).unit ∷ masks (G.rule g.now) (M - 1) (S.flow src.old).words) × Within (G.rule g.now) xs) }
+{
+    let mut shares = [g.unit(); M];
+    // The first keeps the unit. Not by `skip(1)`, after which nothing is known of what was written.
+    for (i, share) in shares.iter_mut().enumerate() {
+        if 0 < i {
+            *share = g.mask(src)?;
+        }
+    }
+    Ok(shares)
 }
 
 // Joins one mask to share i, and its inverse to share j.

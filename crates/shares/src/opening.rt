@@ -25,7 +25,6 @@ pub fn open<const M: usize, G: Group, S: Source>(
     shares: Shares<M>,
     src: &mut S,
 ) -> Result<u32, Mark>
-    requires some { 0 < M }
     requires within { Within (G.rule g.now) shares }
     ensures { Spends ((G.rule g.now).cost * pairs M) result (S.flow src.old) (S.flow src.new) (λ v. v ≡ recombine (G.rule g.now) shares.entry) }
 {

@@ -23,9 +23,9 @@ fn sign_shares<S: ParamSet, P: Multiply<S>, N: Source, W: Source>(
     masks: &mut W,
 ) -> Result<u32, Failure>
     requires tries { 0 < tries }
-    requires work { length work.old ≡ 6 * subject.shares * S.params.n }
+    requires work { length work.old ≡ 6 * subject.shares.count * S.params.n }
     requires record { length «record».old ≡ size S.params }
-    ensures { Follows S.params subject.entry.shares tries result «record».old «record».new (N.flow nonces.old) (N.flow nonces.new) (W.flow masks.old) (W.flow masks.new) (plain_run S.params subject.entry.shares (signs S.params subject.entry.shares subject.entry) tries (N.flow nonces.old) (W.flow masks.old)) }
+    ensures { Follows S.params subject.entry.shares.count tries result «record».old «record».new (N.flow nonces.old) (N.flow nonces.new) (W.flow masks.old) (W.flow masks.new) (plain_run S.params subject.entry.shares.count (signs S.params subject.entry.shares.count subject.entry) tries (N.flow nonces.old) (W.flow masks.old)) }
 {
     at_share_count!(
         subject.shares,
@@ -39,8 +39,7 @@ fn attempts_begun(ending: &Result<u32, Failure>, tries: u32) -> u32
 {
     match ending {
         Ok(attempts) => *attempts,
-        Err(Failure::Halted(Stopped::Nonces(fault))) => fault.attempt,
-        Err(Failure::Halted(Stopped::Masks(fault))) => fault.attempt,
+        Err(Failure::Halted(Stopped::Nonces(fault) | Stopped::Masks(fault))) => fault.attempt,
         Err(Failure::TriesFailed) => tries,
     }
 }
@@ -55,10 +54,10 @@ pub fn sign_counted<S: ParamSet, P: Multiply<S>, N: Source, W: Source>(
     masks: &mut W,
 ) -> (Result<u32, Failure>, Counts)
     requires tries { 0 < tries }
-    requires work { length work.old ≡ 6 * subject.shares * S.params.n }
+    requires work { length work.old ≡ 6 * subject.shares.count * S.params.n }
     requires record { length «record».old ≡ size S.params }
-    ensures follows { Follows S.params subject.entry.shares tries result.0 «record».old «record».new (N.flow nonces.old) (N.flow nonces.new) (W.flow masks.old) (W.flow masks.new) (plain_run S.params subject.entry.shares (signs S.params subject.entry.shares subject.entry) tries (N.flow nonces.old) (W.flow masks.old)) }
-    ensures counts { result.1 ≡ counts_of (plain_run S.params subject.entry.shares (signs S.params subject.entry.shares subject.entry) tries (N.flow nonces.old) (W.flow masks.old)) }
+    ensures follows { Follows S.params subject.entry.shares.count tries result.0 «record».old «record».new (N.flow nonces.old) (N.flow nonces.new) (W.flow masks.old) (W.flow masks.new) (plain_run S.params subject.entry.shares.count (signs S.params subject.entry.shares.count subject.entry) tries (N.flow nonces.old) (W.flow masks.old)) }
+    ensures counts { result.1 ≡ counts_of (plain_run S.params subject.entry.shares.count (signs S.params subject.entry.shares.count subject.entry) tries (N.flow nonces.old) (W.flow masks.old)) }
 {
     let mut nonce_meter = Metered::new(nonces);
     let mut mask_meter = Metered::new(masks);
@@ -73,7 +72,7 @@ pub fn sign_counted<S: ParamSet, P: Multiply<S>, N: Source, W: Source>(
     let drawn = nonce_meter.count();
     let counts = Counts {
         attempts: attempts_begun(&ending, tries),
-        candidates: drawn / subject.shares as u64,
+        candidates: drawn / subject.shares.count as u64,
         nonces: drawn,
         masks: mask_meter.count(),
     };

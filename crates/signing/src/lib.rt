@@ -25,7 +25,7 @@ pub fn sign_in<const M: usize, S: ParamSet, P: Multiply<S>, N: Source, W: Source
     nonces: &mut N,
     masks: &mut W,
 ) -> Result<u32, Failure>
-    requires shares { M ≡ subject.shares }
+    requires shares { M ≡ subject.shares.count }
     requires tries { 0 < tries }
     requires work { length work.old ≡ 6 * M * S.params.n }
     requires record { length «record».old ≡ size S.params }

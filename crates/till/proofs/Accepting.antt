@@ -139,9 +139,6 @@ module _ (s : Params) (sound : Sound s) (bytes : List ℕ) (read : first_hit (re
   long : length bytes ≡ size s
   long = eqb-true _ _ (and_parts (eqb (length bytes) (size s)) (eqb (num4 bytes 0) (size s - 4)) (passed_true _ RecordSize (none_first (reading.size_test s bytes) _ read))).0
 
-  pub length-digest : (xs : List ℕ) → xs ≡ digest_part bytes → length xs ≡ 32
-  length-digest xs e = ap length e ∙ length-take-le 32 (drop 8 bytes) (omega (arith, long, length-drop 8 bytes))
-
   pub length-z-part : (xs : List ℕ) → xs ≡ z_part s bytes → length xs ≡ 4 * s.n
   length-z-part xs e = ap length e ∙ length-take-le (4 * s.n) (drop 40 bytes) (omega (arith, long, length-drop 40 bytes))
 

@@ -71,6 +71,9 @@ impl<'a, S: ParamSet> Till<'a, S> {
             return Err(Refusal::Stale);
         }
         self.last = Some(record.counter);
-        Ok(Payment::new(record.counter, record.digest))
+        Ok(Payment {
+            counter: record.counter,
+            digest: *record.digest,
+        })
     }
 }

@@ -7,9 +7,8 @@ ghost use Rattle.till.specs.Verification.{PublicKey, answering, commitment};
 
 use challenge::challenge;
 use params::ParamSet;
-use record::Record;
-use record::view::codes;
-use ring::{Multiply, Poly, add_assign, sub_assign, to_residue};
+use record::{Record, codes};
+use ring::{MOST, Multiply, Poly, add_assign, sub_assign, to_residue};
 
 // The residues of coefficients that stand in two bytes each. Here and below by place: of a slice that is lent out in parts, as by
 // `zip` or in chunks, nothing is known when the loans end.
@@ -71,7 +70,7 @@ fn commitment<S: ParamSet, M: Multiply<S>>(
     requires { length r.old ≡ S.params.n }
     ensures { r.new ≡ commitment S.params.p a.entry.words.now t.entry.words.now z1.entry.words.now z2.entry.words.now c.entry.words.now }
 {
-    let mut room = [0; 1024];
+    let mut room = [0; MOST];
     let tc = &mut room[0..S::degree()];
     M::multiply(tc, t, c);
     M::multiply(r, a, z1);
@@ -87,10 +86,10 @@ pub(crate) fn answers<S: ParamSet, M: Multiply<S>>(key: &[u32], record: &Record<
     ensures { result ≡ answering S.params key.now «record».now }
 {
     let n = S::degree();
-    let mut z_room = [0; 2048];
-    let mut c_room = [0; 1024];
-    let mut r_room = [0; 1024];
-    let mut expected_room = [0; 1024];
+    let mut z_room = [0; 2 * MOST];
+    let mut c_room = [0; MOST];
+    let mut r_room = [0; MOST];
+    let mut expected_room = [0; MOST];
     let z = &mut z_room[0..2 * n];
     let c = &mut c_room[0..n];
     let r = &mut r_room[0..n];
@@ -107,6 +106,8 @@ pub(crate) fn answers<S: ParamSet, M: Multiply<S>>(key: &[u32], record: &Record<
         Poly::new(z2),
         Poly::new(c),
     );
-    challenge::<S>(expected, r, record.digest, record.counter);
+    // Named first: no field that is a lent array can be lent as a slice.
+    let digest = record.digest;
+    challenge::<S>(expected, r, digest, record.counter);
     *expected == *c
 }

@@ -25,7 +25,7 @@ pub enum Mark {
 }
 
 impl Mark {
-    /// The number by which the world outside knows the mark, which a match says most plainly.
+    /// The number by which the world outside knows the mark. A match, since it reads like the definition.
     pub fn number(self) -> u8
         ensures { result ≡ mark_number self }
     {
@@ -44,7 +44,7 @@ const LONGEST: usize = 1 << 40;
 pub struct OutOfRange;
 
 impl OutOfRange {
-    /// The number by which the world outside knows the refusal.
+    /// The number by which the world outside knows the refusal. Nothing here asks for it: it is a promise to others.
     pub fn number(self) -> u8
         ensures { result ≡ 11 }
     {

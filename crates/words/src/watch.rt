@@ -23,7 +23,7 @@ impl Cutoff {
     }
 }
 
-// A flag beside the values: that what is noted is a plain record with `run` below `cutoff` is a rule of the project.
+// A plain record with a flag in it, and `run` below `cutoff`: a rule of the project asks for this form.
 #[derive(Clone, Copy)]
 pub struct Watch {
     pub cutoff: u32,

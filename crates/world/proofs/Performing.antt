@@ -21,8 +21,8 @@ use Rattle.world.specs.declared.state.World.{World}
 
 module _ (s : Params) (call : Call) (card card' : Card) (c : CardState) (public key key' work work' bytes bytes' : List ℕ) (nonces' masks' : Feed) (reply : Reply) (area made made' : Vec ℕ Global) where
   pub call-done : key ≡ vec_items c.key → length key' ≡ vec_len c.key → work ≡ replicate (lent c.work (6 * c.shares * s.n)) 0 → bytes ≡ replicate (lent c.room (size s)) 0 → length bytes' ≡ vec_len area →
-      Performs s card.shares call reply card.counter card'.counter (areas key public work bytes) (areas key' public work' bytes') (feed_flow c.nonces) (feed_flow nonces') (feed_flow c.masks) (feed_flow masks') →
-      card'.shares ≡ card.shares → recombined s card.shares key' ≡ recombined s card.shares key → Records reply (vec_items (with_items area bytes')) made made' →
+      Performs s card.shares.count call reply card.counter card'.counter (areas key public work bytes) (areas key' public work' bytes') (feed_flow c.nonces) (feed_flow nonces') (feed_flow c.masks) (feed_flow masks') →
+      card'.shares.count ≡ card.shares.count → recombined s card.shares.count key' ≡ recombined s card.shares.count key → Records reply (vec_items (with_items area bytes')) made made' →
       Performed s call card c public made (answer_of reply) (with_call c (with_items c.key key') nonces' masks' (Some card')) made'
   call-done key_is key-long work_is bytes-is bytes-long by shares same records =
       let items = with_items_is c.key key' key-long in

@@ -139,9 +139,9 @@ pub record Performed (s : Params) (call : Call) (card : Card) (c : CardState) (p
   pub card' : Card
   pub work : List ℕ
   pub bytes : List ℕ
-  pub performs : Performs s card.shares call reply card.counter card'.counter (lent_areas s c public) (areas (vec_items c'.key) public work bytes) (feed_flow c.nonces) (feed_flow c'.nonces) (feed_flow c.masks) (feed_flow c'.masks)
-  pub same_shares : card'.shares ≡ card.shares
-  pub same_key : recombined s card.shares (vec_items c'.key) ≡ recombined s card.shares (vec_items c.key)
+  pub performs : Performs s card.shares.count call reply card.counter card'.counter (lent_areas s c public) (areas (vec_items c'.key) public work bytes) (feed_flow c.nonces) (feed_flow c'.nonces) (feed_flow c.masks) (feed_flow c'.masks)
+  pub same_shares : card'.shares.count ≡ card.shares.count
+  pub same_key : recombined s card.shares.count (vec_items c'.key) ≡ recombined s card.shares.count (vec_items c.key)
   pub answered : a ≡ answer_of reply
   pub records : Records reply bytes made made'
   pub rest : c' ≡ with_call c c'.key c'.nonces c'.masks (Some card')

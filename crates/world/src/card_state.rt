@@ -125,7 +125,7 @@ impl CardState {
     ) -> Result<(), Unfilled>
         ensures { MatchResult result (λ told. Refills stream supply (Ok told) self.old self.new) (Unfills stream supply self.old self.new) }
     {
-        // Two arms: a name for the one of two `&mut`s leaves no fact on the other.
+        // Two arms: with the feed picked first the proof has to take the two cases apart again.
         match stream {
             Stream::Nonces => refill(&mut self.nonces, heap, supply),
             Stream::Masks => refill(&mut self.masks, heap, supply),

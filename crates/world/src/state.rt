@@ -111,7 +111,8 @@ impl World {
         self.card.room = bytes as usize;
     }
 
-    // Puts another source in a source's place, or a health check over it.
+    // Puts another source in a source's place, or a health check over it. A refusal is told and want of memory ends the call:
+    // no `From`, as the one error goes two ways.
     pub fn fill(
         &mut self,
         heap: Global,
@@ -149,7 +150,7 @@ impl World {
         Ok(Answer::Loaded(loaded))
     }
 
-    // Writes a word of the public area, or says that it has no such word.
+    // Writes a word of the public area, or says that it has no such word: a `bool`, which is promised to callers.
     pub fn poke_public(&mut self, index: usize, value: u32) -> bool
         ensures within { result ≡ nat_lt index (length (public self.old)) }
         ensures public { public self.new ≡ set (public self.old) index value }
@@ -163,7 +164,7 @@ impl World {
         }
     }
 
-    // Writes a word of an area, or says that it has no such word.
+    // Writes a word of an area, or says that it has no such word, as `poke_public` does.
     pub fn poke(&mut self, area: Area, index: usize, value: u32) -> bool
         ensures within { result ≡ nat_lt index (length (words_of self.old area)) }
         ensures after { Pokes area index value self.old self.new }

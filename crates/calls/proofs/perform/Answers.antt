@@ -12,7 +12,7 @@ pub returns-in-Sign : goal.returns-in-Sign
 returns-in-Sign g c =
     let s = g.S.ParamSet.params in
     let card = c.args.card.now in
-    let m = card.shares in
+    let m = card.shares.count in
     let d = c.in-Sign.digest in
     let t = c.in-Sign.tries in
     let is : Sign d t ≡ c.args.call.now = sym c.in-Sign.is in
@@ -42,7 +42,7 @@ pub returns-in-Remask : goal.returns-in-Remask
 returns-in-Remask g c =
     let s = g.S.ParamSet.params in
     let card = c.args.card.now in
-    let m = card.shares in
+    let m = card.shares.count in
     let is : Remask ≡ c.args.call.now = sym c.in-Remask.is in
     let h = c.remask.ensures.remasked in
     let public = c.args.public.now in
@@ -71,7 +71,7 @@ pub returns-in-Report : goal.returns-in-Report
 returns-in-Report g c =
     let s = g.S.ParamSet.params in
     let card = c.args.card.now in
-    let m = card.shares in
+    let m = card.shares.count in
     let is : Report ≡ c.args.call.now = sym c.in-Report.is in
     let x = areas c.args.key.now c.args.public.now c.args.work.now c.args.record.now in
     let n = g.N.Source.flow c.args.nonces.now in

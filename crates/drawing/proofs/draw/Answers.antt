@@ -1,7 +1,8 @@
-use Rattle.std.proofs.Common.{◌≡◌, ℕ, ◌*◌, ◌<◌, ◌≢◌, List, [], length, take, sym, ap, ◌∙◌, subst, arith, below_more}
+use Rattle.std.proofs.Common.{◌≡◌, ℕ, ◌*◌, ◌<◌, ◌≢◌, List, [], length, take, sym, ap, ◌∙◌, subst, rules, arith, below_more}
 use Rattle.refusal.specs.declared.fault.Coefficient.{Coefficient}
 use Rattle.refusal.specs.declared.fault.Step.TheVariants.{Conversion}
 use Rattle.steps.specs.declared.Ended.TheVariants.{Masks}
+use Rattle.std.proofs.lemmas.Result.{err_from_is_err_and}
 use Rattle.shares.specs.Rule.{Within, recombine}
 use Rattle.shares.specs.Groups.{residue_rule}
 use Rattle.polys.specs.Area.{shares_of, values, recombined}
@@ -9,7 +10,9 @@ use Rattle.polys.proofs.Places.{polynomial-inside, values-long, area-within}
 use Rattle.plain.specs.Nonces.{candidate, coefficient}
 use Rattle.plain.specs.Run.{at}
 use Rattle.drawing.specs.Resume.{Stops}
-use Rattle.drawing.specs.Drawing.{Drawing, ended_by}
+use Rattle.drawing.specs.Drawing.{Drawing, halted}
+use Rattle.drawing.specs.declared.halt.Halt.{Halt}
+use Rattle.drawing.proofs.Mapping.{kept_ok, mapped_err}
 use Rattle.drawing.proofs.Resuming.{drawing-none, drawing-refused, drawing-accepted, drawing-stops, short-of-conversion}
 use Rattle.drawing.proofs.Candidates.{values_none, values_more, judged-none, judged-some, tried_stops}
 use Rattle.drawing.proofs.draw.Goals as goal
@@ -54,9 +57,9 @@ coefficients-preserved g c =
     let d = (rw c.in-Ok-Some.field-0-is at c.in-Ok-Some.ensures).by in
     let ws = (g.N.Source.flow c.candidates.nonces).words in
     let x = judged-some s g.row.M _ _ ws c.candidate_bits-bits.ensures.is c.candidate_limit-limit.ensures c.in-Ok-Some.x d.2 in
-    let v = c.in-Ok.ensures.by in
+    let v = (rw (kept_ok c.convert.result _ c.map_err.ensures.cases c.in_ok-shares.was) at c.convert.ensures).by in
     let p = residue_rule s.p in
-    let written : shares_of s.n g.row.M y' i ≡ c.in-Ok.shares = ap (λ (n : ℕ). shares_of n g.row.M y' i) (sym c.degree-n.ensures) ∙ c.scatter.ensures.written in
+    let written : shares_of s.n g.row.M y' i ≡ c.in_ok-shares.shares = ap (λ (n : ℕ). shares_of n g.row.M y' i) (sym c.degree-n.ensures) ∙ c.scatter.ensures.written in
     let others : (k : ℕ) → k ≢ i → shares_of s.n g.row.M y' k ≡ shares_of s.n g.row.M y k = λ k ne. subst (λ (n : ℕ). shares_of n g.row.M y' k ≡ shares_of n g.row.M y k) c.degree-n.ensures (c.scatter.ensures.others k ne) in
     let is : coefficient s (candidate s (take g.row.M ws)) ≡ recombine p (shares_of s.n g.row.M y' i) = sym (ap (recombine p) written ∙ v.1.1 ∙ ap (coefficient s) x.1) in (
       λ u. subst (λ (t : List ℕ). Drawing s g.row.M u t (g.N.Source.flow c.args.nonces.now) (g.N.Source.flow c.candidate.new.nonces) (g.W.Source.flow c.args.masks.now) (g.W.Source.flow c.convert.new.masks))
@@ -76,12 +79,12 @@ returns-in-Err g c =
     let end = c.coefficients-i-end.ensures in
     let wants : length y < 2 * s.n = omega (arith, c.coefficients-test.true) in
     record {
-      drawn = λ u. record { by = tried_stops s g.row.M c.candidate_bits-bits.result c.candidate_limit-limit.result c.requires.some u y c.in-Err.ended c.at-at.result _ _ _ _ _ _ wants (c.at-at.ensures ∙ ap (at s) (sym long)) (c.candidates.invariant u _ _ (c.coefficients.invariant.0 u)) c.in-Err.ensures.by };
+      drawn = λ u. record { by = tried_stops s g.row.M c.candidate_bits-bits.result c.candidate_limit-limit.result c.requires.some u y c.in-Err.ended c.at-place.result _ _ _ _ _ _ wants (c.at-place.ensures ∙ ap (at s) (sym long)) (c.candidates.invariant u _ _ (c.coefficients.invariant.0 u)) c.in-Err.ensures.by };
       residues = tt;
     }
 
-pub returns-in-Err-convert : goal.returns-in-Err-convert
-returns-in-Err-convert g c =
+pub returns-in_err-shares-clause-drawn : goal.returns-in_err-shares-clause-drawn
+returns-in_err-shares-clause-drawn g c =
     let s = g.S.ParamSet.params in
     let i = c.coefficients.i in
     let y = values s g.row.M i c.coefficients.y in
@@ -95,16 +98,17 @@ returns-in-Err-convert g c =
     let n₂ = g.N.Source.flow c.candidate.new.nonces in
     let f₀ = g.W.Source.flow c.args.masks.now in
     let f₃ = g.W.Source.flow c.convert.new.masks in
-    let place : at s (length y) ≡ c.at-at.result = sym (c.at-at.ensures ∙ ap (at s) (sym long)) in
-    record {
-      drawn = λ u.
-          let D = c.candidates.invariant u _ _ (c.coefficients.invariant.0 u) in
-          record {
-            by = subst (λ (q : Coefficient). Stops s g.row.M u [] [] (ended_by (Masks c.in-Err-convert.mark) (Conversion q)) n₀ n₂ f₀ f₃) place
-                (drawing-stops s g.row.M c.requires.some u D (short-of-conversion s g.row.M c.requires.some u D.words y _ _ _ wants d.0 _ d.1 x.0 c.in-Err-convert.ensures.by));
-          };
-      residues = tt;
-    }
+    let p = mapped_err c.convert.result _ c.map_err.ensures.cases c.in_err-shares.was in
+    let here : c.in_err-shares.field-0.0 ≡ record { ended = Masks p.0; step = Conversion c.at-place.result } = search rules in
+    let told = here ∙ ap (λ (q : Coefficient). record { ended = Masks p.0; step = Conversion q }) (c.at-place.ensures ∙ ap (at s) (sym long)) in
+    let short = (rw p.1 at c.convert.ensures).by in
+    let q = err_from_is_err_and c.from_residual.result c.from_residual.ensures.1 in
+    λ u.
+    let D = c.candidates.invariant u _ _ (c.coefficients.invariant.0 u) in
+    rw (q.1, q.2) (record {
+      by = subst (λ (h : Halt). Stops s g.row.M u [] [] (halted h) n₀ n₂ f₀ f₃) (sym told)
+          (drawing-stops s g.row.M c.requires.some u D (short-of-conversion s g.row.M c.requires.some u D.words y _ _ _ wants d.0 _ d.1 x.0 short));
+    })
 
 pub returns-after-coefficients : goal.returns-after-coefficients
 unfolding recombined

@@ -1,4 +1,4 @@
-use Rattle.std.proofs.Common.{◌≡◌, ℕ, ◌+◌, ◌*◌, ◌%◌, length, refl, ap, ◌∙◌, arith, rules}
+use Rattle.std.proofs.Common.{◌≡◌, ℕ, ◌+◌, ◌*◌, ◌%◌, List, length, get_or, refl, ap, ◌∙◌, arith, rules}
 use Rattle.words.proofs.Spendings.{spent_as, spent_then, times_more}
 use Rattle.shares.specs.Groups.{residue_rule, word_of}
 use Rattle.shares.specs.Lawful.{residue_laws}
@@ -12,7 +12,7 @@ to_words-requires g c =
     let hz : length c.in_ok-out.out ≡ g.row.M = search rules in
     let hy : length c.each-negatives.result ≡ g.row.M = search rules in
     let i : Inverses (residue_rule p) (residue_laws p c.args.ring.some) c.in_ok-out.out c.each-negatives.result = (omega arith, λ k h. let t = c.each-negatives.ensures k (omega arith) in search rules) in
-    (search rules, (c.requires.some, inverses-within (residue_rule p) (residue_laws p c.args.ring.some) _ _ c.in_ok-out.ensures.by.1.0 i))
+    (search rules, (c.requires.some, inverses-within (residue_rule p) (residue_laws p c.args.ring.some) _ _ c.in_ok-out.ensures.by.1.1 i))
 
 pub sec_add_modp-requires : goal.sec_add_modp-requires
 sec_add_modp-requires g c = (search rules, (c.requires.some, (omega (arith, c.in_ok-less.ensures.by.1, residue_below c.args.ring.p c.each-negatives.result c.args.ring.some), c.requires.below)))
@@ -30,6 +30,6 @@ returns g c =
     record {
       by = (
         spent_as a (omega arith),
-        shares-of (residue_rule p) (residue_laws p c.args.ring.some) _ (word_of c.args.x) c.in_ok-out.out c.each-negatives.result (omega (arith, c.requires.some)) c.requires.below v masks.1.0 masks.1.1 i,
+        shares-of (residue_rule p) (residue_laws p c.args.ring.some) _ (word_of c.args.x) c.in_ok-out.out c.each-negatives.result (omega (arith, c.requires.some)) c.requires.below v masks.1.1 (ap (λ (zs : List ℕ). get_or zs 0 0) masks.1.0) i,
       );
     }

@@ -1,4 +1,4 @@
-use Rattle.std.proofs.Common.{◌≡◌, ℕ, ◌+◌, ◌-◌, ◌*◌, eqb, List, [], ◌∷◌, length, take, drop, None, sym, ap, ◌∙◌, arith, length-drop}
+use Rattle.std.proofs.Common.{◌≡◌, ℕ, ◌+◌, ◌-◌, ◌*◌, eqb, List, [], ◌∷◌, length, take, drop, None, Some, IsSomeAnd, Option, sym, ap, ◌∙◌, subst, arith, length-drop}
 use Rattle.std.proofs.lemmas.Bool.Decides.{nat_tests}
 use Rattle.params.proofs.Facts.{n_quarters}
 use Rattle.params.specs.Params.{Params}
@@ -10,7 +10,8 @@ use Rattle.record.proofs.Rewriting.{written_again}
 use Rattle.record.proofs.reader.read.Goals as goal
 use Rattle.record.specs.Layout.{size, kind, num2, num4, z_of, unpacked, z_part, c_part}
 use Rattle.refusal.specs.Tests.{at_index}
-use Rattle.record.specs.Reading.{far, size_test, kind_test, reach_test, code_test}
+use Rattle.record.specs.Reading.{Parts, far, size_test, kind_test, reach_test, code_test}
+use Rattle.record.specs.declared.view.Record.{Record}
 use Rattle.search.specs.First.{first_at}
 
 -- where the parts of a body lie in the bytes
@@ -45,12 +46,17 @@ returns-in_err-body g c =
     let p = err_from_is_err_and c.from_residual.result c.from_residual.ensures.1 in
     rw (p.1, p.2) (hits_two (size_test s bytes) (kind_test s bytes) (reach_test s bytes ∷ code_test s bytes ∷ []) _ c.in_err-body.ensures)
 
+-- what is known of the parts once they are there
+parts_of : (s : Params) (body : List ℕ) (o : Option Record) (r : Record) → IsSomeAnd o (Parts s body) → o ≡ Some r → Parts s body r
+parts_of s body o r h e = subst (λ (x : Option Record). IsSomeAnd x (Parts s body)) e h
+
 pub returns-in_err-check_reach : goal.returns-in_err-check_reach
 returns-in_err-check_reach g c =
     let s = g.S.ParamSet.params in
     let bytes = c.args.bytes.now in
     let opens = c.in_ok-body.ensures in
-    let z = z-place s bytes _ _ opens.3 c.split_body-record.ensures.z in
+    let parts = parts_of s c.in_ok-body.body.now _ _ c.split_body.ensures c.in_ok-record.ensures.ok_part in
+    let z = z-place s bytes _ _ opens.3 parts.2 in
     let p = err_from_is_err_and c.from_residual-in_err-check_reach.result c.from_residual-in_err-check_reach.ensures.1 in
     let hit = sym (reach-there s bytes _ z) ∙ c.in_err-check_reach.ensures in
     rw (p.1, p.2) (passes (size_test s bytes) _ opens.0 ∙ passes (kind_test s bytes) _ opens.1 ∙ hits (reach_test s bytes) _ _ hit)
@@ -58,7 +64,8 @@ returns-in_err-check_reach g c =
 pub check_codes-requires : goal.check_codes-requires
 check_codes-requires g c =
     let opens = c.in_ok-body.ensures in
-    let rest = ap length c.split_body-record.ensures.challenge in
+    let parts = parts_of g.S.ParamSet.params c.in_ok-body.body.now _ _ c.split_body.ensures c.in_ok-record.ensures.ok_part in
+    let rest = ap length parts.3 in
     omega (arith, rest, length-drop (34 + 4 * g.S.ParamSet.params.n) c.in_ok-body.body.now, ap length opens.3, length-drop 6 c.args.bytes.now, opens.2, g.S.ParamSet.sound.n_most)
 
 pub returns-in_err-check_codes : goal.returns-in_err-check_codes
@@ -66,8 +73,9 @@ returns-in_err-check_codes g c =
     let s = g.S.ParamSet.params in
     let bytes = c.args.bytes.now in
     let opens = c.in_ok-body.ensures in
-    let z = z-place s bytes _ _ opens.3 c.split_body-record.ensures.z in
-    let codes = c-place s bytes _ _ opens.3 c.split_body-record.ensures.challenge in
+    let parts = parts_of s c.in_ok-body.body.now _ _ c.split_body.ensures c.in_ok-record.ensures.ok_part in
+    let z = z-place s bytes _ _ opens.3 parts.2 in
+    let codes = c-place s bytes _ _ opens.3 parts.3 in
     let p = err_from_is_err_and c.from_residual-in_err-check_codes.result c.from_residual-in_err-check_codes.ensures.1 in
     let near = sym (reach-there s bytes _ z) ∙ c.in_ok-check_reach.ensures in
     let hit = sym (codes-there s bytes _ codes) ∙ c.in_err-check_codes.ensures in
@@ -79,14 +87,14 @@ returns g c =
     let sound = g.S.ParamSet.sound in
     let bytes = c.args.bytes.now in
     let opens = c.in_ok-body.ensures in
-    let parts = c.split_body-record.ensures in
-    let z = z-place s bytes _ _ opens.3 parts.z in
-    let codes = c-place s bytes _ _ opens.3 parts.challenge in
+    let parts = parts_of s c.in_ok-body.body.now _ _ c.split_body.ensures c.in_ok-record.ensures.ok_part in
+    let z = z-place s bytes _ _ opens.3 parts.2 in
+    let codes = c-place s bytes _ _ opens.3 parts.3 in
     let near = sym (reach-there s bytes _ z) ∙ c.in_ok-check_reach.ensures in
     let used = sym (codes-there s bytes _ codes) ∙ c.in_ok-check_codes.ensures in (
       passes (size_test s bytes) _ opens.0 ∙ passes (kind_test s bytes) _ opens.1 ∙ passes (reach_test s bytes) _ near ∙ passes (code_test s bytes) _ used,
-      parts.counter ∙ counter-place bytes _ opens.3,
-      parts.digest ∙ ap (λ (xs : List ℕ). take 32 (drop 2 xs)) opens.3 ∙ ap (take 32) (drop-drop 2 6 bytes),
+      parts.0 ∙ counter-place bytes _ opens.3,
+      parts.1 ∙ ap (λ (xs : List ℕ). take 32 (drop 2 xs)) opens.3 ∙ ap (take 32) (drop-drop 2 6 bytes),
       z,
       codes,
       written_again s bytes (omega (arith, sound.k_below_p, sound.alpha_below_k, sound.alpha_some)) (n_quarters s sound) (λ i. (c.type_inv.bytes i).fits) opens.2

@@ -10,7 +10,7 @@ loop-i-preserved c =
 
 pub returns : goal.returns
 returns c =
-    let residues = c.args.c.now in
+    let residues = c.args.residues.now in
     written_all four_in c.loop-i.part c.as_chunks.result.0.now c.loop-i.i (omega arith) (omega arith) c.loop-i.invariant
     ∙ ap (λ (xs : List (List ℕ)). map four_in xs) c.as_chunks.ensures.front
     ∙ packed-fours (length residues / 4) residues (omega arith)

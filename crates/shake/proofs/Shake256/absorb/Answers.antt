@@ -24,7 +24,7 @@ pub loop-rest-preserved-in-Some : goal.loop-rest-preserved-in-Some
 loop-rest-preserved-in-Some c =
     let cut = c.in-Some.ensures.cases in
     let rest : List ℕ = c.loop-rest.rest.now in
-    further c.args.bytes.now rest c.in-Some.lane.now c.in-Some.behind.now _ _ _ c.loop-rest.invariant (sym (take-append-drop 8 rest) ∙ cc) c.absorb_lane.ensures
+    further c.args.bytes.now rest c.in-Some.lane.now c.in-Some.after_lane.now _ _ _ c.loop-rest.invariant (sym (take-append-drop 8 rest) ∙ cc) c.absorb_lane.ensures
 
 pub loop-rest-preserved : goal.loop-rest-preserved
 loop-rest-preserved c = further c.args.bytes.now c.loop-rest.rest.now _ _ _ _ _ c.loop-rest.invariant (first_apart c.loop-rest.rest.now c.in-len1-up.len_at_least) c.absorb_byte.ensures

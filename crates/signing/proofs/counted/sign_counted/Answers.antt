@@ -20,8 +20,8 @@ returns g c =
     let sf = meter-spent _ _ mf.src.ghost_name mf.count f f' d.masks in
     let kn = meter-count _ _ mn.src.ghost_name mn.count n n' d.nonces (omega arith) (g.N.Source.few c.args.nonces.now) in
     let kf = meter-count _ _ mf.src.ghost_name mf.count f f' d.masks (omega arith) (g.W.Source.few c.args.masks.now) in
-    let R = plain_run s c.args.subject.shares (signs s c.args.subject.shares c.args.subject) c.args.tries n f in
-    let follows : Follows s c.args.subject.shares c.args.tries c.sign_shares-ending.result c.args.record.now c.sign_shares-ending.new.record n n' f f' R = record { ends = d.ends; nonces = sn; masks = sf; left = d.left; seen = d.seen } in
+    let R = plain_run s c.args.subject.shares.count (signs s c.args.subject.shares.count c.args.subject) c.args.tries n f in
+    let follows : Follows s c.args.subject.shares.count c.args.tries c.sign_shares-ending.result c.args.record.now c.sign_shares-ending.new.record n n' f f' R = record { ends = d.ends; nonces = sn; masks = sf; left = d.left; seen = d.seen } in
     let drawn = c.count-drawn.ensures ∙ kn in
-    let counts = counts_are R _ _ _ _ (c.attempts_begun.ensures ∙ begun_is s c.args.tries c.sign_shares-ending.result _ _ R d.ends) (ap (λ (k : ℕ). k / c.args.subject.shares) drawn ∙ sym d.seen) drawn (c.count.ensures ∙ kf) in
+    let counts = counts_are R _ _ _ _ (c.attempts_begun.ensures ∙ begun_is s c.args.tries c.sign_shares-ending.result _ _ R d.ends) (ap (λ (k : ℕ). k / c.args.subject.shares.count) drawn ∙ sym d.seen) drawn (c.count.ensures ∙ kf) in
     search rules

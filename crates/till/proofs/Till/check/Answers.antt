@@ -1,4 +1,4 @@
-use Rattle.std.proofs.Common.{◌≡◌, ℕ, Bool, List, Some, Ok, Err, Result, sym, refl, ap, ◌∙◌}
+use Rattle.std.proofs.Common.{◌≡◌, ℕ, Bool, List, Ok, Err, Result, sym, refl, ap, ◌∙◌}
 use Rattle.params.specs.Params.{Params}
 use Rattle.record.specs.Layout.{Content, decode}
 use Rattle.record.specs.declared.view.Record.{Record}
@@ -6,7 +6,7 @@ use Rattle.refusal.specs.declared.Refusal.TheVariants.{OtherChallenge, Stale}
 use Rattle.refusal.specs.declared.Refusal.{Refusal}
 use Rattle.std.proofs.lemmas.Result.{err_from_is_err_and}
 use Rattle.std.specs.Str.{bytes_eq}
-use Rattle.till.proofs.Accepting.{accepts-ok, challenge-refused, content_is, counter-refused, key-refused, length-c_part, length-digest, length-z-part, ok-accepts, payment_is, record-refused, refused, taken, unchanged}
+use Rattle.till.proofs.Accepting.{accepts-ok, challenge-refused, content_is, counter-refused, key-refused, length-c_part, length-z-part, ok-accepts, payment_is, record-refused, refused, taken, unchanged}
 use Rattle.till.proofs.Till.check.Goals as goal
 use Rattle.till.specs.Verdict.{above}
 use Rattle.till.specs.Verification.{answering, content, expected}
@@ -86,11 +86,6 @@ returns-then-not-above g c =
     let answer = refused s sound key last bytes r Stale refl (counter-refused s sound key last bytes opens.0 opens.1 parts.0 same stale) in
     record { answer = answer; last = refl; key = refl; accepts = ok-accepts s sound key last bytes r answer; accepted = accepts-ok s sound key last bytes r answer }
 
-pub new-requires : goal.new-requires
-new-requires g c =
-    let parts = c.in_ok-record.ensures in
-    length-digest g.S.ParamSet.params g.S.ParamSet.sound c.args.bytes.now parts.0 _ parts.2
-
 pub returns : goal.returns
 returns g c =
     let s = g.S.ParamSet.params in
@@ -103,7 +98,8 @@ returns g c =
     let says = content_is s bytes c.in_ok-record.record parts.1 parts.2 parts.3 parts.4 in
     let same = told s key bytes c.in_ok-record.record _ says c.answers.ensures ∙ c.if-not-answers.false in
     let fresh = ap (above last) (sym parts.1) ∙ sym c.above.ensures ∙ c.if-not-above.false in
-    let paid = payment_is s bytes c.new.result (c.new.ensures.0 ∙ parts.1) (c.new.ensures.1 ∙ parts.2) in
-    let r : Result Payment Refusal = Ok c.new.result in
-    let answer = taken s sound key last bytes opens.0 opens.1 parts.0 same fresh c.new.result paid in
-    record { answer = answer; last = ap Some (sym c.new.ensures.0); key = refl; accepts = ok-accepts s sound key last bytes r answer; accepted = accepts-ok s sound key last bytes r answer }
+    let p : Payment = record { counter = c.in_ok-record.record.counter; digest = c.in_ok-record.record.digest.now } in
+    let paid = payment_is s bytes p parts.1 parts.2 in
+    let r : Result Payment Refusal = Ok p in
+    let answer = taken s sound key last bytes opens.0 opens.1 parts.0 same fresh p paid in
+    record { answer = answer; last = refl; key = refl; accepts = ok-accepts s sound key last bytes r answer; accepted = accepts-ok s sound key last bytes r answer }

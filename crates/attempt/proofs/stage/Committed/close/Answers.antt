@@ -7,7 +7,7 @@ use Rattle.polys.specs.Area.{recombined}
 use Rattle.plain.specs.Costs.{cost}
 use Rattle.refusal.specs.declared.fault.Step.TheVariants.{Check, Open}
 use Rattle.steps.specs.declared.Ended.TheVariants.{Masks}
-use Rattle.attempt.proofs.Mapping.{kept_ok, mapped_err}
+use Rattle.drawing.proofs.Mapping.{kept_ok, mapped_err}
 use Rattle.attempt.proofs.stage.Committed.close.Goals as goal
 
 pub returns-in_err-passes : goal.returns-in_err-passes

@@ -5,7 +5,7 @@ use Rattle.polys.specs.Area.{values}
 use Rattle.plain.specs.Costs.{cost}
 use Rattle.refusal.specs.declared.fault.Step.TheVariants.{Commit}
 use Rattle.steps.specs.declared.Ended.TheVariants.{Masks}
-use Rattle.attempt.proofs.Mapping.{kept_ok, mapped_err}
+use Rattle.drawing.proofs.Mapping.{kept_ok, mapped_err}
 use Rattle.attempt.proofs.stage.Drawn.commit.Goals as goal
 
 pub returns-in_err-map_err : goal.returns-in_err-map_err

@@ -2,7 +2,7 @@ use Rattle.std.proofs.Common.{◌≡◌, refl, rules}
 use Rattle.std.proofs.lemmas.Result.{err_from_is_err_and}
 use Rattle.drawing.specs.Drawing.{halted}
 use Rattle.attempt.specs.Stages.{outcome_of, attempt_of}
-use Rattle.attempt.proofs.Mapping.{kept_ok, mapped_err}
+use Rattle.drawing.proofs.Mapping.{kept_ok, mapped_err}
 use Rattle.attempt.proofs.stage.Drawn.draw.Goals as goal
 
 pub returns-in_err-map_err-clause-drawn : goal.returns-in_err-map_err-clause-drawn

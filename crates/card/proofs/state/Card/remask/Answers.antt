@@ -1,7 +1,7 @@
 use Rattle.std.proofs.Common.{◌≡◌, rules}
 use Rattle.std.proofs.lemmas.Result.{err_from_is_err_and}
 use Rattle.refusal.specs.declared.Refusal.TheVariants.{MasksEnded}
-use Rattle.attempt.proofs.Mapping.{kept_ok, mapped_err}
+use Rattle.drawing.proofs.Mapping.{kept_ok, mapped_err}
 use Rattle.card.proofs.Ending.{remask-done, remask-ended}
 use Rattle.card.proofs.state.Card.remask.Goals as goal
 
@@ -13,7 +13,7 @@ returns-in_err-map_err g c =
     let told : c.in_err-map_err.field-0.0 ≡ MasksEnded p.0 = search rules in
     let q = err_from_is_err_and c.from_residual-in_err-map_err.result c.from_residual-in_err-map_err.ensures.1 in
     rw (q.1, q.2, told) (record {
-      remasked = remask-ended g.S.ParamSet.params c.args.self.now.shares c.in_ok-check_key.ensures.0 r d.remasks p.0 p.1;
+      remasked = remask-ended g.S.ParamSet.params c.args.self.now.shares.count c.in_ok-check_key.ensures.0 r d.remasks p.0 p.1;
       same = d.remasks.same;
       residues = λ _. d.remasks.residues;
     })
@@ -23,7 +23,7 @@ returns g c =
     let d = c.remask_counted-ending.ensures in
     let r = c.remask_counted-ending.result.0 in
     record {
-      remasked = remask-done g.S.ParamSet.params c.args.self.now.shares c.in_ok-check_key.ensures.0 r d.remasks c.in_ok-map_err.field-0 c.remask_counted-ending.result.1 (kept_ok r _ c.map_err.ensures.cases c.in_ok-map_err.was) d.count;
+      remasked = remask-done g.S.ParamSet.params c.args.self.now.shares.count c.in_ok-check_key.ensures.0 r d.remasks c.in_ok-map_err.field-0 c.remask_counted-ending.result.1 (kept_ok r _ c.map_err.ensures.cases c.in_ok-map_err.was) d.count;
       same = d.remasks.same;
       residues = λ _. d.remasks.residues;
     }
