@@ -16,7 +16,7 @@ ghost use Rattle.drawing.specs.Resume.{Subject};
 
 pub mod halt;
 
-use gadgets::to_residues;
+use gadgets::{Limit, to_residues};
 pub use halt::Halt;
 use params::ParamSet;
 use polys::{coefficients, scatter};
@@ -26,10 +26,12 @@ use steps::{Ended, candidate};
 use words::{Mark, Source};
 
 /// What an accepted candidate is below.
-pub fn candidate_limit<S: ParamSet>() -> u32
-    ensures { result ≡ limit S.params }
+pub fn candidate_limit<S: ParamSet>() -> Limit
+    ensures { result.value ≡ limit S.params }
 {
-    2 * S::nonce_bound() + 1
+    Limit {
+        value: 2 * S::nonce_bound() + 1,
+    }
 }
 
 /// How many low bits of a nonce word make a candidate: as few as can tell all that are accepted.
@@ -38,7 +40,7 @@ pub fn candidate_bits<S: ParamSet>() -> u32
     ensures least { LeastBits (limit S.params) result }
     ensures few { result ≤ 24 }
 {
-    u32::BITS - candidate_limit::<S>().leading_zeros()
+    u32::BITS - candidate_limit::<S>().value.leading_zeros()
 }
 
 // The place of the i-th coefficient of y1 and y2.

@@ -5,6 +5,7 @@ ghost use Rattle.shares.specs.Groups.{word_of};
 ghost use Rattle.shares.specs.Refresh.{pairs};
 ghost use Rattle.gadgets.specs.Words.{generated, propagated, is_below};
 
+use crate::limit::Limit;
 use linear::{negated, public, shift_left, top_bit, xor};
 use shares::{Shares, Words, fresh, sec_and};
 use words::{Mark, Source};
@@ -48,15 +49,14 @@ pub fn sec_add<const M: usize, S: Source>(
 /// Shares of 1 where `x` is below `limit`, else of 0: the top bit of `x - limit`.
 pub fn sec_below<const M: usize, S: Source>(
     x: Shares<M>,
-    limit: u32,
+    limit: Limit,
     src: &mut S,
 ) -> Result<Shares<M>, Mark>
     requires some { 0 < M }
     requires small { word_of x < 2 ^ 31 }
-    requires limited { (0 < limit) × (limit < 2 ^ 31) }
-    ensures { Spends (15 * pairs M) result (S.flow src.old) (S.flow src.new) (λ z. word_of z ≡ is_below (word_of x.entry) limit) }
+    ensures { Spends (15 * pairs M) result (S.flow src.old) (S.flow src.new) (λ z. word_of z ≡ is_below (word_of x.entry) limit.value) }
 {
-    let minus = fresh(&Words, public(negated(limit)), src)?;
+    let minus = fresh(&Words, public(negated(limit.value)), src)?;
     let difference = sec_add(x, minus, src)?;
     Ok(top_bit(difference))
 }

@@ -4,8 +4,10 @@
 
 pub mod adder;
 pub mod convert;
+pub mod limit;
 pub mod modular;
 
 pub use adder::{sec_add, sec_below};
 pub use convert::{to_residues, to_words};
+pub use limit::Limit;
 pub use modular::sec_add_modp;

@@ -40,14 +40,13 @@ pub fn gather<const M: usize>(area: &[u32], n: usize, c: usize) -> Shares<M>
     shares
 }
 
-/// The shares of coefficient c of an area of residues.
+/// The shares of coefficient c. Of an area of residues, they are residues.
 // Beside the method of `Shared`, since it holds for an area of any length with room for c.
 pub fn coefficient<const M: usize, S: ParamSet>(area: &[u32], c: usize) -> Shares<M>
     requires most { M ≤ 8 }
     requires inside { (c / S.params.n + 1) * M * S.params.n ≤ length area.now }
-    requires residues { Residues S.params.p area.now }
     ensures shares { result ≡ shares_of S.params.n M area.now c }
-    ensures within { Within (residue_rule S.params.p) result }
+    ensures within { Residues S.params.p area.now → Within (residue_rule S.params.p) result }
 {
     gather::<M>(area, S::degree(), c)
 }

@@ -9,7 +9,7 @@ ghost use Rattle.shares.specs.Refresh.{pairs};
 ghost use Rattle.gadgets.specs.Words.{is_below};
 ghost use Rattle.steps.specs.Candidate.{Judged, Tried};
 
-use gadgets::{sec_below, to_words};
+use gadgets::{Limit, sec_below, to_words};
 use linear::low_bits;
 use shares::{Group, Residues, Shares, Words, fresh, open, sec_and};
 use words::{Mark, Source};
@@ -34,13 +34,12 @@ fn draw_shares<const M: usize, S: Source>(src: &mut S) -> Result<Shares<M>, Mark
 // Only whether x is below the limit is opened.
 fn judge<const M: usize, S: Source>(
     x: Shares<M>,
-    limit: u32,
+    limit: Limit,
     src: &mut S,
 ) -> Result<Option<Shares<M>>, Mark>
     requires some { 0 < M }
     requires small { word_of x < 2 ^ 31 }
-    requires limited { (0 < limit) × (limit < 2 ^ 31) }
-    ensures { Spends (17 * pairs M) result (S.flow src.old) (S.flow src.new) (λ o. Judged limit (word_of x.entry) o) }
+    ensures { Spends (17 * pairs M) result (S.flow src.old) (S.flow src.new) (λ o. Judged limit.value (word_of x.entry) o) }
 {
     let x = fresh(&Words, x, src)?;
     let below = sec_below(x, limit, src)?;
@@ -51,14 +50,13 @@ fn judge<const M: usize, S: Source>(
 /// One candidate: the low `bits` bits of the next `M` nonce words are its shares, and it is refused unless it is below `limit`.
 pub fn candidate<const M: usize, N: Source, S: Source>(
     bits: u32,
-    limit: u32,
+    limit: Limit,
     nonces: &mut N,
     masks: &mut S,
 ) -> Result<Option<Shares<M>>, Ended<Mark>>
     requires some { 0 < M }
     requires narrow { bits < 31 }
-    requires limited { (0 < limit) × (limit < 2 ^ 31) }
-    ensures { Tried M bits limit result (N.flow nonces.old) (N.flow nonces.new) (S.flow masks.old) (S.flow masks.new) }
+    ensures { Tried M bits limit.value result (N.flow nonces.old) (N.flow nonces.new) (S.flow masks.old) (S.flow masks.new) }
 {
     let words = draw_shares(nonces).map_err(Ended::Nonces)?;
     judge(low_bits(words, bits), limit, masks).map_err(Ended::Masks)
@@ -80,6 +78,9 @@ pub fn check_coefficient<const M: usize, S: Source>(
     let mut moved = z;
     moved[0] = ring.join(z[0], reach);
     let word = to_words(moved, ring, src)?;
-    let inside = sec_below(word, 2 * reach + 1, src)?;
+    let limit = Limit {
+        value: 2 * reach + 1,
+    };
+    let inside = sec_below(word, limit, src)?;
     sec_and(inside, pass, src)
 }

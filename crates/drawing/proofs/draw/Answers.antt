@@ -79,7 +79,7 @@ returns-in-Err g c =
     let end = c.coefficients-i-end.ensures in
     let wants : length y < 2 * s.n = omega (arith, c.coefficients-test.true) in
     record {
-      drawn = λ u. record { by = tried_stops s g.row.M c.candidate_bits-bits.result c.candidate_limit-limit.result c.requires.some u y c.in-Err.ended c.at-place.result _ _ _ _ _ _ wants (c.at-place.ensures ∙ ap (at s) (sym long)) (c.candidates.invariant u _ _ (c.coefficients.invariant.0 u)) c.in-Err.ensures.by };
+      drawn = λ u. record { by = tried_stops s g.row.M c.candidate_bits-bits.result c.candidate_limit-limit.result.value c.requires.some u y c.in-Err.ended c.at-place.result _ _ _ _ _ _ wants (c.at-place.ensures ∙ ap (at s) (sym long)) (c.candidates.invariant u _ _ (c.coefficients.invariant.0 u)) c.in-Err.ensures.by };
       residues = tt;
     }
 

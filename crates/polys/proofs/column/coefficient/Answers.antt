@@ -13,5 +13,5 @@ returns g c =
     let is : c.gather.result ≡ shares_of s.n g.row.M area c.args.c = c.gather.ensures ∙ ap (λ (n : ℕ). shares_of n g.row.M area c.args.c) c.degree.ensures in
     record {
       shares = is;
-      within = subst (Within (residue_rule s.p)) (sym is) (shares-within s.n g.row.M s.p area c.args.c (omega arith) c.requires.inside c.requires.residues);
+      within = λ r. subst (Within (residue_rule s.p)) (sym is) (shares-within s.n g.row.M s.p area c.args.c (omega arith) c.requires.inside r);
     }
