@@ -14,7 +14,7 @@ mod scrub;
 mod sign;
 mod state;
 
-use keys::{check_key, check_load, clear, load_counted, publish, remask_counted};
+use keys::{Secret, check_key, check_load, clear, load_counted, publish, remask_counted};
 use params::ParamSet;
 use refusal::Refusal;
 use ring::Multiply;
@@ -36,6 +36,7 @@ pub fn load<S: ParamSet, M: Multiply<S>, W: Source>(
     ensures loadable { OnOk result (Loadable S.params shares secret.now public.old key.old) }
 {
     let count = check_load::<S>(shares, secret, public, key)?;
+    let secret = Secret::new(secret);
     let (ending, taken) = load_counted::<S, W>(count, secret, key, masks);
     // No `?`: a load that ends early clears the key area first.
     if let Err(mark) = ending {

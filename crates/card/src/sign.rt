@@ -1,8 +1,9 @@
 // Signing: the tests, the guard of the work area, and what a signing answers.
-ghost use Rattle.std.specs.Prelude.{◌≡◌, ◌+◌, ◌-◌, ◌*◌, ◌<◌, ◌≤◌, length, Err};
-ghost use Rattle.card.specs.Sign.{SignBy, TestsSign, answer_of, outcome_in, sign_tests};
+ghost use Rattle.std.specs.Prelude.{◌≡◌, ◌+◌, ◌-◌, ◌*◌, ◌<◌, ◌≤◌, length, Err, IfOk};
+ghost use Rattle.std.specs.NonZero.{non_zero_u32_get};
+ghost use Rattle.card.specs.Sign.{SignBy, TestsSign, answer_of, outcome_in, sign_tests, tries_test};
 ghost use Rattle.attempt.specs.Attempt.{subject_of};
-ghost use Rattle.refusal.specs.Tests.{first_hit};
+ghost use Rattle.refusal.specs.Tests.{Tested, first_hit};
 
 use crate::scrub::Scrub;
 use crate::state::{Card, Signed};
@@ -11,6 +12,7 @@ use params::ParamSet;
 use refusal::{Area, Counts, Refusal, check_residues};
 use ring::{Multiply, Poly};
 use signing::{Failure, sign_counted};
+use std::num::NonZeroU32;
 use words::Source;
 
 // The refusal of a signing that gave no record.
@@ -24,8 +26,18 @@ fn refusal(failure: Failure, counts: Counts) -> Refusal
     }
 }
 
+// The tries are 1 to 255.
+fn check_tries(tries: u32) -> Result<NonZeroU32, Refusal>
+    ensures tested { Tested (tries_test tries) result }
+    ensures tries { IfOk result (λ tested. non_zero_u32_get tested ≡ tries) }
+{
+    NonZeroU32::new(tries)
+        .filter(|tries| tries.get() <= 255)
+        .ok_or(Refusal::Tries)
+}
+
 impl Card {
-    // The tests of a sign.
+    // The tests of a sign, and its tries.
     fn check_sign<S: ParamSet>(
         &self,
         tries: u32,
@@ -33,8 +45,9 @@ impl Card {
         public: &[u32],
         work: &[u32],
         record: &[u8],
-    ) -> Result<(), Refusal>
-        ensures { TestsSign S.params self.now.shares.count self.now.counter tries key.now public.now work.now «record».now result }
+    ) -> Result<NonZeroU32, Refusal>
+        ensures tests { TestsSign S.params self.now.shares.count self.now.counter tries key.now public.now work.now «record».now result }
+        ensures tries { IfOk result (λ tested. non_zero_u32_get tested ≡ tries) }
     {
         let n = S::degree();
         let rows = self.shares.count as usize * n;
@@ -47,13 +60,11 @@ impl Card {
         }
         check_residues(Area::Public, public, S::modulus())?;
         check_residues(Area::Key, key, S::modulus())?;
-        if !(1..=255).contains(&tries) {
-            return Err(Refusal::Tries);
-        }
+        let tries = check_tries(tries)?;
         if self.counter == u16::MAX {
             return Err(Refusal::CounterEnd);
         }
-        Ok(())
+        Ok(tries)
     }
 
     /// Signs a digest within so many tries, and writes the record into the area lent for it.
@@ -73,7 +84,7 @@ impl Card {
         ensures shares { self.new.shares.count ≡ self.old.shares.count }
         ensures digest { length digest.now ≡ 32 }
     {
-        self.check_sign::<S>(tries, key, public, work, record)?;
+        let tries = self.check_sign::<S>(tries, key, public, work, record)?;
         let counter = self.counter + 1;
         let subject = Subject {
             shares: self.shares,

@@ -7,6 +7,7 @@ ghost use Rattle.search.specs.First.{first_at};
 ghost use Rattle.shares.specs.Groups.{residue_rule};
 ghost use Rattle.words.specs.Spending.{Spends};
 
+use crate::secret::Secret;
 use crate::split::split;
 use params::ParamSet;
 use polys::scatter;
@@ -46,11 +47,7 @@ pub fn check_load<S: ParamSet>(
         return Err(Refusal::AreaSize);
     }
     check_residues(Area::Public, &public[0..n], S::modulus())?;
-    // A match, since what is found is the error.
-    match first_not_ternary(secret) {
-        Some(index) => Err(Refusal::NotTernary { index }),
-        None => Ok(count),
-    }
+    first_not_ternary(secret).map_or(Ok(count), |index| Err(Refusal::NotTernary { index }))
 }
 
 // The residue of a secret coefficient.
@@ -89,17 +86,16 @@ fn load_coefficient<const M: usize, S: ParamSet, W: Source>(
 
 // Puts shares of each coefficient into the key area, those of s1 first.
 fn load_key<const M: usize, S: ParamSet, W: Source>(
-    secret: &[i8],
+    secret: Secret<'_, S>,
     key: &mut [u32],
     masks: &mut W,
 ) -> Result<(), Mark>
     requires some { 0 < M }
     requires most { M ≤ 8 }
-    requires secret { length secret.now ≡ 2 * S.params.n }
     requires sized { length key.old ≡ 2 * M * S.params.n }
-    ensures { Spends (load_cost S.params M) result (W.flow masks.old) (W.flow masks.new) (λ _. Holds S.params M secret.now (W.flow masks.old).words key.new) }
+    ensures { Spends (load_cost S.params M) result (W.flow masks.old) (W.flow masks.new) (λ _. Holds S.params M secret.entry.coefficients.now (W.flow masks.old).words key.new) }
 {
-    for (c, coefficient) in secret.iter().enumerate() {
+    for (c, coefficient) in secret.coefficients.iter().enumerate() {
         let value = secret_residue::<S>(*coefficient);
         load_coefficient::<M, S, W>(value, key, c, masks)?;
     }
@@ -109,13 +105,12 @@ fn load_key<const M: usize, S: ParamSet, W: Source>(
 // The same at a share count that is known when the program runs.
 fn load_shares<S: ParamSet, W: Source>(
     shares: ShareCount,
-    secret: &[i8],
+    secret: Secret<'_, S>,
     key: &mut [u32],
     masks: &mut W,
 ) -> Result<(), Mark>
-    requires secret { length secret.now ≡ 2 * S.params.n }
     requires sized { length key.old ≡ 2 * shares.count * S.params.n }
-    ensures { Spends (load_cost S.params shares.count) result (W.flow masks.old) (W.flow masks.new) (λ _. Holds S.params shares.count secret.now (W.flow masks.old).words key.new) }
+    ensures { Spends (load_cost S.params shares.count) result (W.flow masks.old) (W.flow masks.new) (λ _. Holds S.params shares.count secret.entry.coefficients.now (W.flow masks.old).words key.new) }
 {
     at_share_count!(shares, load_key::<_, S, W>(secret, key, masks))
 }
@@ -124,13 +119,12 @@ fn load_shares<S: ParamSet, W: Source>(
 // A pair, since the count is promised of a load that ends early too.
 pub fn load_counted<S: ParamSet, W: Source>(
     shares: ShareCount,
-    secret: &[i8],
+    secret: Secret<'_, S>,
     key: &mut [u32],
     masks: &mut W,
 ) -> (Result<(), Mark>, u64)
-    requires secret { length secret.now ≡ 2 * S.params.n }
     requires sized { length key.old ≡ 2 * shares.count * S.params.n }
-    ensures holds { Spends (load_cost S.params shares.count) result.0 (W.flow masks.old) (W.flow masks.new) (λ _. Holds S.params shares.count secret.now (W.flow masks.old).words key.new) }
+    ensures holds { Spends (load_cost S.params shares.count) result.0 (W.flow masks.old) (W.flow masks.new) (λ _. Holds S.params shares.count secret.entry.coefficients.now (W.flow masks.old).words key.new) }
     ensures count { result.1 ≡ length (W.flow masks.old).words - length (W.flow masks.new).words }
 {
     let mut meter = Metered::new(masks);

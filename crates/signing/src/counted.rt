@@ -1,5 +1,6 @@
 // A signing at a share count that is known when the program runs, with what it took.
 ghost use Rattle.std.specs.Prelude.{◌≡◌, ◌-◌, ◌*◌, ◌/◌, ◌<◌, ◌≤◌, length};
+ghost use Rattle.std.specs.NonZero.{non_zero_u32_get};
 ghost use Rattle.record.specs.Layout.{size};
 ghost use Rattle.attempt.specs.Attempt.{signs};
 ghost use Rattle.signing.specs.Signing.{Follows, attempts_begun, plain_run};
@@ -12,20 +13,20 @@ use params::ParamSet;
 use refusal::Counts;
 use ring::Multiply;
 use shares::at_share_count;
+use std::num::NonZeroU32;
 use words::{Metered, Source};
 
 fn sign_shares<S: ParamSet, P: Multiply<S>, N: Source, W: Source>(
-    tries: u32,
+    tries: NonZeroU32,
     subject: Subject<'_, S>,
     work: &mut [u32],
     record: &mut [u8],
     nonces: &mut N,
     masks: &mut W,
 ) -> Result<u32, Failure>
-    requires tries { 0 < tries }
     requires work { length work.old ≡ 6 * subject.shares.count * S.params.n }
     requires record { length «record».old ≡ size S.params }
-    ensures { Follows S.params subject.entry.shares.count tries result «record».old «record».new (N.flow nonces.old) (N.flow nonces.new) (W.flow masks.old) (W.flow masks.new) (plain_run S.params subject.entry.shares.count (signs S.params subject.entry.shares.count subject.entry) tries (N.flow nonces.old) (W.flow masks.old)) }
+    ensures { Follows S.params subject.entry.shares.count (non_zero_u32_get tries) result «record».old «record».new (N.flow nonces.old) (N.flow nonces.new) (W.flow masks.old) (W.flow masks.new) (plain_run S.params subject.entry.shares.count (signs S.params subject.entry.shares.count subject.entry) (non_zero_u32_get tries) (N.flow nonces.old) (W.flow masks.old)) }
 {
     at_share_count!(
         subject.shares,
@@ -46,18 +47,17 @@ fn attempts_begun(ending: &Result<u32, Failure>, tries: u32) -> u32
 
 /// A signing, and what it took. Each candidate takes a nonce word for each share, so the whole candidates are as many as those words hold.
 pub fn sign_counted<S: ParamSet, P: Multiply<S>, N: Source, W: Source>(
-    tries: u32,
+    tries: NonZeroU32,
     subject: Subject<'_, S>,
     work: &mut [u32],
     record: &mut [u8],
     nonces: &mut N,
     masks: &mut W,
 ) -> (Result<u32, Failure>, Counts)
-    requires tries { 0 < tries }
     requires work { length work.old ≡ 6 * subject.shares.count * S.params.n }
     requires record { length «record».old ≡ size S.params }
-    ensures follows { Follows S.params subject.entry.shares.count tries result.0 «record».old «record».new (N.flow nonces.old) (N.flow nonces.new) (W.flow masks.old) (W.flow masks.new) (plain_run S.params subject.entry.shares.count (signs S.params subject.entry.shares.count subject.entry) tries (N.flow nonces.old) (W.flow masks.old)) }
-    ensures counts { result.1 ≡ counts_of (plain_run S.params subject.entry.shares.count (signs S.params subject.entry.shares.count subject.entry) tries (N.flow nonces.old) (W.flow masks.old)) }
+    ensures follows { Follows S.params subject.entry.shares.count (non_zero_u32_get tries) result.0 «record».old «record».new (N.flow nonces.old) (N.flow nonces.new) (W.flow masks.old) (W.flow masks.new) (plain_run S.params subject.entry.shares.count (signs S.params subject.entry.shares.count subject.entry) (non_zero_u32_get tries) (N.flow nonces.old) (W.flow masks.old)) }
+    ensures counts { result.1 ≡ counts_of (plain_run S.params subject.entry.shares.count (signs S.params subject.entry.shares.count subject.entry) (non_zero_u32_get tries) (N.flow nonces.old) (W.flow masks.old)) }
 {
     let mut nonce_meter = Metered::new(nonces);
     let mut mask_meter = Metered::new(masks);
@@ -71,7 +71,7 @@ pub fn sign_counted<S: ParamSet, P: Multiply<S>, N: Source, W: Source>(
     );
     let drawn = nonce_meter.count();
     let counts = Counts {
-        attempts: attempts_begun(&ending, tries),
+        attempts: attempts_begun(&ending, tries.get()),
         candidates: drawn / subject.shares.count as u64,
         nonces: drawn,
         masks: mask_meter.count(),
