@@ -8,8 +8,8 @@
  *   check HEX, check     shows the till that record, or no bytes
  *   last                 tells the till's last counter
  *
- * An empty line and a line that begins with # do nothing. Lines other than `last` are those of docs/SCENARIO.md, and are told alike;
- * a line that is not understood ends the program with status 1.
+ * An empty line and a line that begins with # do nothing. All lines but `last` are those of docs/SCENARIO.md, and told alike; one
+ * that is not understood ends the program with status 1.
  */
 #include <ctype.h>
 #include <inttypes.h>
