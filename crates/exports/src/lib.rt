@@ -8,10 +8,15 @@ ghost use Rattle.params.specs.Params.{set_i};
 ghost use Rattle.shake.specs.Sponge.{shake256};
 ghost use Rattle.till.specs.Verdict.{verdict};
 
+mod till_calls;
+
 use params::{ParamSet, SetI};
 use ring::{LongProduct, Multiply, Poly};
 use search::first_at_least;
 use till::Till;
+pub use till_calls::{
+    TillAnswer, TillState, cavrudez_till_check, cavrudez_till_last, cavrudez_till_open,
+};
 
 // Words as a polynomial, if they are the coefficients of one.
 fn polynomial(words: &[u32]) -> Option<Poly<'_, SetI>>
