@@ -20,6 +20,7 @@ pub struct Listed<'a> {
     pub words: &'a [u32],
 }
 
+// This and `write_words`: a format is a literal, so no function serves both.
 fn write_hex<W: fmt::Write>(bytes: &[u8], f: &mut fmt::Formatter<W>) -> fmt::Result
     ensures { WritesOnOk W.write_str_gives f.old result (spell hex_text bytes.now) f.new }
 {

@@ -23,7 +23,7 @@ use polys::{Shared, commit_rows, open_poly, respond_rows};
 use record::write;
 use refusal::{Fault, Step};
 use response::{check, open_response};
-use ring::{Multiply, Poly};
+use ring::{MOST, Multiply, Poly};
 pub use stage::{Committed, Drawn};
 use steps::Ended;
 pub use stopped::Stopped;
@@ -122,7 +122,7 @@ impl Committed {
     }
 }
 
-// Writes a record into an area of its size.
+// Writes a record into an area of its size. Its four parts come together only here.
 fn write_record<S: ParamSet>(out: &mut [u8], counter: u16, digest: &[u8; 32], z: &[i16], c: &[u32])
     requires out { length out.old ≡ size S.params }
     requires z { length z.now ≡ 2 * S.params.n }
@@ -169,8 +169,7 @@ pub fn attempt<const M: usize, S: ParamSet, P: Multiply<S>, N: Source, W: Source
     // The shares of the commitment are of no more use.
     let c = &mut r[0..n];
     challenge::<S>(c, opened, digest, counter);
-    // Room for the answer of the largest set.
-    let mut room = [0; 2048];
+    let mut room = [0; 2 * MOST];
     let answer = &mut room[0..2 * n];
     let key = Shared::<2, M, S>::new(key);
     let passed = committed.close::<M, S, P, W>(answer, z, key, y, Poly::new(c), masks)?;

@@ -1,4 +1,4 @@
-// What a card answers.
+// What a card answers. A program's own answers have more kinds, and one enum inside the other would be taken apart twice.
 use card::{Report, Signed};
 use refusal::Refusal;
 

@@ -1,14 +1,14 @@
 -- Sign: its tests, and then the plain run on the key that the shares stand for.
-use Rattle.std.specs.Prelude.{◌≡◌, ℕ, ◌+◌, ◌*◌, ◌<◌, ◌&&◌, leb, List, [], ◌∷◌, length, take, replicate, Some, None, Ok, Err, Option, Result, ◌==◌, nat_le, nat_lt}
+use Rattle.std.specs.Prelude.{◌≡◌, ℕ, ◌+◌, ◌*◌, ◌<◌, ◌&&◌, List, [], ◌∷◌, length, take, replicate, Some, None, Ok, Err, Option, Result, ◌==◌, nat_le, nat_lt}
 use Rattle.params.specs.Params.{Params}
 use Rattle.refusal.specs.declared.Area.TheVariants.{Public}
 use Rattle.refusal.specs.declared.Refusal.{Refusal}
-use Rattle.refusal.specs.declared.Refusal.TheVariants.{AreaSize, NotResidue, Tries, CounterEnd, NoncesEndedAt, MasksEndedAt, TriesFailed}
+use Rattle.refusal.specs.declared.Refusal.TheVariants.{AreaSize, Tries, CounterEnd, NoncesEndedAt, MasksEndedAt, TriesFailed}
 use Rattle.refusal.specs.declared.fault.Counts.{Counts}
-use Rattle.refusal.specs.Tests.{unless, at_index, first_hit}
+use Rattle.refusal.specs.Residues.{residue_test}
+use Rattle.refusal.specs.Tests.{unless, first_hit}
 use Rattle.record.specs.Layout.{encode, size}
 use Rattle.ring.specs.Ring.{Residues}
-use Rattle.search.specs.First.{first_at}
 use Rattle.words.specs.Flow.{Flow}
 use Rattle.plain.specs.Run.{Outcome, Run, signed, nonces_ended, masks_ended, all_failed, counts_of, sign}
 use Rattle.attempt.specs.Attempt.{key_in}
@@ -24,7 +24,7 @@ abbrev pub areas_test : Params → ℕ → (key public work bytes : List ℕ) �
 areas_test s m key public work bytes = unless (length public == 2 * s.n && (length key == 2 * m * s.n && (length work == 6 * m * s.n && length bytes == size s))) AreaSize
 
 abbrev pub public_test : Params → List ℕ → Option Refusal
-public_test s public = at_index (NotResidue Public) (first_at (leb s.p) public)
+public_test s public = residue_test Public s.p public
 
 abbrev pub tries_test : ℕ → Option Refusal
 tries_test tries = unless (nat_le 1 tries && nat_le tries 255) Tries

@@ -15,7 +15,7 @@ use signing::{Failure, sign_counted};
 use std::num::NonZeroU32;
 use words::Source;
 
-// The refusal of a signing that gave no record.
+// The refusal of a signing that gave no record. No `From`, as the counts go into it too.
 fn refusal(failure: Failure, counts: Counts) -> Refusal
     ensures { Err result ≡ answer_of (outcome_in failure) counts }
 {

@@ -51,7 +51,7 @@ impl Feed {
         Ok(Feed::Checked(Watch::start(cutoff), below))
     }
 
-    // The same in place.
+    // The same in place, where a feed that finds no memory for its check must still be there.
     pub fn put_check(&mut self, heap: Global, cutoff: Cutoff) -> Result<(), AllocError>
         ensures { MatchResult result (λ _. Steady cutoff.value (feed_flow self.old) (feed_flow self.new)) (λ _. self.new ≡ self.old) }
     {

@@ -5,6 +5,6 @@ ghost use Rattle.std.specs.Prelude.{◌^◌, ◌<◌};
 #[derive(Clone, Copy)]
 pub struct Limit {
     pub value: u32,
-    pub ghost some: { 0 < value },
-    pub ghost small: { value < 2 ^ 31 },
+    ghost some: { 0 < value },
+    ghost small: { value < 2 ^ 31 },
 }

@@ -1,9 +1,10 @@
 -- A load's tests, the secret key in shares, and the public key.
-use Rattle.std.specs.Prelude.{◌≡◌, ℕ, ◌-◌, ◌*◌, ◌<◌, ◌≤◌, Bool, ◌&&◌, leb, List, [], ◌∷◌, ◌++◌, map, length, take, drop, ℤ, Some, None, Ok, Err, Option, Result, ◌==◌, nat_le, nat_lt, slice_index, unsigned_abs}
+use Rattle.std.specs.Prelude.{◌≡◌, ℕ, ◌-◌, ◌*◌, ◌<◌, ◌≤◌, Bool, ◌&&◌, List, [], ◌∷◌, ◌++◌, map, length, take, drop, ℤ, Some, None, Ok, Err, Option, Result, ◌==◌, nat_le, nat_lt, slice_index, unsigned_abs}
 use Rattle.params.specs.Params.{Params}
 use Rattle.refusal.specs.declared.Area.TheVariants.{Public}
 use Rattle.refusal.specs.declared.Refusal.{Refusal}
-use Rattle.refusal.specs.declared.Refusal.TheVariants.{ShareCount, AreaSize, NotResidue, NotTernary}
+use Rattle.refusal.specs.declared.Refusal.TheVariants.{ShareCount, AreaSize, NotTernary}
+use Rattle.refusal.specs.Residues.{residue_test}
 use Rattle.refusal.specs.Tests.{unless, at_index, first_hit}
 use Rattle.ring.specs.Ring.{Residues, residue, plus, product}
 use Rattle.search.specs.First.{first_at}
@@ -23,7 +24,7 @@ abbrev pub sizes_test : Params → ℕ → List ℤ → List ℕ → List ℕ �
 sizes_test s m secret public key = unless (length public == 2 * s.n && (length secret == 2 * s.n && length key == 2 * m * s.n)) AreaSize
 
 abbrev pub a_test : Params → List ℕ → Option Refusal
-a_test s public = at_index (NotResidue Public) (first_at (leb s.p) (take s.n public))
+a_test s public = residue_test Public s.p (take s.n public)
 
 abbrev pub secret_test : List ℤ → Option Refusal
 secret_test secret = at_index NotTernary (first_at not_ternary secret)

@@ -1,11 +1,11 @@
 -- A remask's tests, and new shares of the same key.
-use Rattle.std.specs.Prelude.{◌≡◌, ℕ, ◌*◌, ◌<◌, List, [], ◌∷◌, length, drop, Some, None, Ok, Err, Option, Result, ◌==◌, nat_le}
+use Rattle.std.specs.Prelude.{◌≡◌, ℕ, ◌*◌, ◌<◌, List, [], ◌∷◌, length, drop, Some, None, Ok, Err, Option, Result, ◌==◌}
 use Rattle.params.specs.Params.{Params}
 use Rattle.refusal.specs.declared.Area.TheVariants.{Key}
 use Rattle.refusal.specs.declared.Refusal.{Refusal}
-use Rattle.refusal.specs.declared.Refusal.TheVariants.{AreaSize, NotResidue}
-use Rattle.refusal.specs.Tests.{unless, at_index, first_hit}
-use Rattle.search.specs.First.{first_at}
+use Rattle.refusal.specs.declared.Refusal.TheVariants.{AreaSize}
+use Rattle.refusal.specs.Residues.{residue_test}
+use Rattle.refusal.specs.Tests.{unless, first_hit}
 use Rattle.shares.specs.Rule.{Within}
 use Rattle.shares.specs.Groups.{residue_rule}
 use Rattle.shares.specs.Refresh.{pairs, rows, refreshed}
@@ -20,7 +20,7 @@ abbrev pub size_test : Params → ℕ → List ℕ → Option Refusal
 size_test s m key = unless (length key == 2 * m * s.n) AreaSize
 
 abbrev pub word_test : Params → List ℕ → Option Refusal
-word_test s key = at_index (NotResidue Key) (first_at (nat_le s.p) key)
+word_test s key = residue_test Key s.p key
 
 -- in their order
 abbrev pub key_tests : Params → ℕ → List ℕ → List (Option Refusal)

@@ -84,7 +84,7 @@ fn load_coefficient<const M: usize, S: ParamSet, W: Source>(
     Ok(())
 }
 
-// Puts shares of each coefficient into the key area, those of s1 first.
+// Puts shares of each coefficient into the key area, those of s1 first. The area's length is asked for, as above.
 fn load_key<const M: usize, S: ParamSet, W: Source>(
     secret: Secret<'_, S>,
     key: &mut [u32],
@@ -116,7 +116,7 @@ fn load_shares<S: ParamSet, W: Source>(
 }
 
 /// Puts shares of each coefficient into the key area, those of s1 first, and tells how many words were taken.
-// A pair, since the count is promised of a load that ends early too.
+// A pair, since the count is promised of a load that ends early too. The meter stands in `remask_counted` again: no closure is over any source.
 pub fn load_counted<S: ParamSet, W: Source>(
     shares: ShareCount,
     secret: Secret<'_, S>,

@@ -8,6 +8,7 @@ ghost use Rattle.linear.specs.Words.{constant, shifted};
 use shares::Shares;
 
 /// What `f` makes of each share alone.
+// No `map` of the array: that wants to know that M words fit in memory.
 pub fn each<const M: usize, F: Fn(u32) -> u32>(x: Shares<M>, f: F) -> Shares<M>
     requires { (k : ℕ) → k < M → F.pre f (slice_index x k) }
     ensures { (k : ℕ) → k < M → F.post f (slice_index x.entry k) (slice_index result k) }
@@ -24,7 +25,7 @@ pub fn xor<const M: usize>(x: Shares<M>, y: Shares<M>) -> Shares<M>
     ensures { word_of result ≡ bit_xor (word_of x.entry) (word_of y.entry) }
 {
     let mut out = x;
-    // By index into the other array, since after a zip over `iter_mut` nothing is known of what was written.
+    // As in `sec_and`, which is of a crate below. By index into the other array, since after a zip over `iter_mut` nothing is known of what was written.
     for (i, share) in out.iter_mut().enumerate() {
         *share ^= y[i];
     }

@@ -15,10 +15,10 @@ use std::marker::PhantomData;
 pub struct Shared<'a, const K: usize, const M: usize, S: ParamSet> {
     pub area: &'a [u32],
     set: PhantomData<S>,
-    pub ghost some: { 0 < M },
-    pub ghost most: { M ≤ 8 },
-    pub ghost sized: { length area.now ≡ K * M * S.params.n },
-    pub ghost residues: { Residues S.params.p area.now },
+    ghost some: { 0 < M },
+    ghost most: { M ≤ 8 },
+    ghost sized: { length area.now ≡ K * M * S.params.n },
+    ghost residues: { Residues S.params.p area.now },
 }
 
 // By hand: no derive copies a struct that has ghost fields and a type parameter.

@@ -113,6 +113,7 @@ pub fn read<S: ParamSet>(bytes: &[u8]) -> Result<Record<'_>, Refusal>
     ensures { Reads S.params bytes.now result }
 {
     let body = open_body::<S>(bytes)?;
+    // A body that was opened has its size, so there are parts.
     let record = split_body::<S>(body).ok_or(Refusal::RecordSize)?;
     check_reach::<S>(record.z)?;
     check_codes(record.challenge)?;

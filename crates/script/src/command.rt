@@ -27,7 +27,7 @@ pub enum Supply {
     Health { cutoff: u32 },
 }
 
-// A line that has an answer, and may be repeated.
+// A line that has an answer, and may be repeated. The card's calls stand here again, since a line knows nothing of cards.
 #[derive(Drop)]
 pub enum Call {
     Check(Shown),

@@ -22,14 +22,12 @@ fn without_plus(word: &str) -> Result<&str, Unread>
     }
 }
 
-// The number that a word of digits writes, where it is at most `max`.
+// The number that a word of digits writes, where it is at most `max`. Lines have no such number: it stands for who reads others.
 pub fn number(word: &str, max: u64) -> Option<u64>
     ensures { SomeIff result (Decimal max word.now) (digits_value 10 word.now) }
 {
-    match without_plus(word).ok()?.parse::<u64>() {
-        Ok(number) if number <= max => Some(number),
-        _ => None,
-    }
+    let number = without_plus(word).ok()?.parse::<u64>().ok()?;
+    (number <= max).then_some(number)
 }
 
 // A value that a word can write.

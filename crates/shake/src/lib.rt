@@ -10,7 +10,7 @@ mod squeeze;
 
 pub use digest::{hash, vectors_hold};
 
-// A state whose block is done up to byte `pos`.
+// A state whose block is done up to byte `pos`: a number, as the bytes are those of 25 lanes and no slice.
 #[derive(Drop)]
 struct Sponge {
     state: [u64; 25],

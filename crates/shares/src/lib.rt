@@ -21,7 +21,8 @@ pub use residues::Residues;
 use words::{Mark, Source};
 
 /// One value in `M` shares, each below the group's order.
-// Only functions that read or write a first share ask for `0 < M`; xor, sec_and and others hold for no share too, so a type that carried it would ask more.
+// Only functions that read or write a first share ask for `0 < M`; xor, sec_and and others hold for no share too, so a type that carried it would ask more. So it is
+// with `M ≤ 8`, which those ask for that reckon a place in an area; and words have no bound at all, so that only groups ask for shares within theirs.
 pub type Shares<const M: usize> = [u32; M];
 
 /// A call at a share count that is known when the program runs, as `at_share_count!(shares, sign::<_, S>(key))`.

@@ -46,6 +46,7 @@ fn attempts_begun(ending: &Result<u32, Failure>, tries: u32) -> u32
 }
 
 /// A signing, and what it took. Each candidate takes a nonce word for each share, so the whole candidates are as many as those words hold.
+// A pair, since the counts are promised of a signing that fails too. Areas and sources are lent one by one, as for an attempt.
 pub fn sign_counted<S: ParamSet, P: Multiply<S>, N: Source, W: Source>(
     tries: NonZeroU32,
     subject: Subject<'_, S>,

@@ -19,6 +19,7 @@ use std::num::NonZeroU32;
 use words::Source;
 
 /// Attempts on shares in the key area, at most `tries`; tells how many were begun until one passed.
+// The areas and the sources are lent one by one, as for an attempt.
 pub fn sign_in<const M: usize, S: ParamSet, P: Multiply<S>, N: Source, W: Source>(
     tries: NonZeroU32,
     subject: Subject<'_, S>,

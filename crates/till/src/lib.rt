@@ -21,10 +21,7 @@ use verify::answers;
 fn above(last: Option<u16>, counter: u16) -> bool
     ensures { result ≡ above last counter }
 {
-    match last {
-        Some(last) => counter > last,
-        None => true,
-    }
+    last.is_none_or(|last| counter > last)
 }
 
 // A till for cards of the set S: their public key, and the last counter it took, if it took any.

@@ -39,15 +39,6 @@ impl<B: AsSlice<u32> + Drop> Tape<B> {
     }
 }
 
-impl<'a> Tape<&'a [u32]> {
-    /// A tape of words that are lent.
-    pub fn lent(words: &'a [u32]) -> Result<Tape<&'a [u32]>, OutOfRange>
-        ensures { Refuses (2 ^ 40 < length words.now) result (λ t. tape_flow t.words.now t.at ≡ from words.now Mark.Spent) }
-    {
-        Tape::new(words)
-    }
-}
-
 impl<B: AsSlice<u32>> Source for Tape<B> {
     ghost flow = { λ t. tape_flow (B.items t.words) t.at };
 

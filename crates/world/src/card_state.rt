@@ -136,6 +136,7 @@ impl CardState {
     pub(crate) fn load<S: ParamSet>(&mut self, public: &mut [u32]) -> Result<u64, Refusal>
         ensures { Loads S.params self.old public.old result self.new public.new }
     {
+        // Both arms, since both say what becomes of the card.
         match load::<S, LongProduct, Feed>(
             self.shares,
             self.secret.as_slice(),

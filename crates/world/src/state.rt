@@ -21,7 +21,7 @@ pub struct World {
     t: Vec<u32>,
     card: CardState,
     till: Option<TillState>,
-    // The last record made, no bytes if none was.
+    // The last record made, no bytes if none was: what a till is then shown, so no `Option`.
     made: Vec<u8>,
 }
 

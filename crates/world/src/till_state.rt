@@ -11,6 +11,7 @@ use ring::LongProduct;
 use script::SetName;
 use till::{Payment, Till};
 
+// No `Till`: that is of a set's type, and which set it is shows only when the program runs.
 #[derive(Drop)]
 pub struct TillState {
     pub key: Vec<u32>,
