@@ -1,1 +1,2 @@
+pub mod Payment
 pub mod Table

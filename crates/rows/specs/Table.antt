@@ -1,5 +1,5 @@
 -- The worked examples, on a card of the small set: n = 4 and p = 97. Each row is a fact about the definitions.
-use Rattle.std.specs.Prelude.{List, [], ◌∷◌, map, ◌≡◌, true, false, ℕ, ◌+◌, ◌%◌, ℤ, pos, negsuc}
+use Rattle.std.specs.Prelude.{List, [], ◌∷◌, map, ◌≡◌, true, false, ℕ, ◌+◌, ◌%◌, ℤ, pos, negsuc, replicate}
 use Rattle.params.specs.Params.{set_s}
 use Rattle.plain.specs.Costs.{cost}
 use Rattle.plain.specs.Nonces.{candidates, nonces}
@@ -10,6 +10,7 @@ use Rattle.refusal.specs.declared.fault.Step.TheVariants.{Candidate, Conversion,
 use Rattle.ring.specs.Ring.{centre, plus, product}
 use Rattle.shares.specs.Groups.{residue_rule, word_of, word_rule}
 use Rattle.shares.specs.Refresh.{refreshed, rows}
+use Rattle.words.specs.Generators.{stretched}
 
 abbrev p : ℕ
 p = set_s.p
@@ -37,6 +38,8 @@ pub record Table : Type 0 where
   -- a mask from the words 0 and 98, and from 1 and 0
   pub mask_of_low : (residue_rule p).mask (0 ∷ 98 ∷ []) ≡ 1
   pub mask_of_high : (residue_rule p).mask (1 ∷ 0 ∷ []) ≡ 35
+  -- the first two words of a generator whose seed is zeros
+  pub generated : stretched (replicate 32 0) 0 2 ≡ 0x827C97F5 ∷ 0x636A5483 ∷ []
   -- the challenge 1 − x² is one byte
   pub challenge_byte : packed (map code_of (1 ∷ 0 ∷ 96 ∷ 0 ∷ [])) ≡ 0x31 ∷ []
   -- the sum modulo p of shared words: 96 + 1, and 48 + 48

@@ -1,8 +1,10 @@
 // The worked examples follow from the definitions.
 #![tactic(auto)]
 
+ghost use Rattle.rows.specs.Payment.{Payment};
 ghost use Rattle.rows.specs.Table.{Table};
 
 pub fn rows_hold()
-    ensures { Table }
+    ensures table { Table }
+    ensures payment { Payment }
 {}

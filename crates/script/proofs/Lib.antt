@@ -1,3 +1,7 @@
+mod Ascii
+mod Heads
+mod Named
 mod Pairs
+mod Passed
 mod Rows
 mod Split

@@ -1,18 +1,15 @@
 -- A text that is read word by word, the words parted by one space.
-use Rattle.std.proofs.Common.{◌≡◌, ◌∙◌, ◌⊎◌, ⊎_elim, Bool, true, false, ℕ, suc, List, [], ◌∷◌, ◌++◌, Err, sym, refl, subst, append_assoc, arith}
+use Rattle.std.proofs.Common.{◌≡◌, ◌∙◌, ◌⊎◌, ⊎_elim, Bool, true, false, ℕ, suc, List, [], ◌∷◌, ◌++◌, sym, refl, subst, append_assoc, arith}
 use Rattle.std.specs.Str.Iter.{LacksByte}
-use Rattle.script.specs.Answers.{Reads}
 use Rattle.script.specs.Words.{Writes}
-use Rattle.script.specs.declared.unread.Unread.{Unread}
-use Rattle.script.specs.declared.unread.Unread.TheVariants.{NotUnderstood, Memory}
 
 -- a text with a space in it
-has_space : (a r : List ℕ) → LacksByte 32 (a ++ (32 ∷ r)) → ⊥
+pub has_space : (a r : List ℕ) → LacksByte 32 (a ++ (32 ∷ r)) → ⊥
 has_space [] r no-space = no-space 0 (omega arith) refl
 has_space (x ∷ a) r no-space = has_space a r (λ k h. no-space (suc k) (omega arith))
 
 -- there is one first space
-same_split : (a b r s : List ℕ) → LacksByte 32 a → LacksByte 32 b → a ++ (32 ∷ r) ≡ b ++ (32 ∷ s) → (a ≡ b) × (r ≡ s)
+pub same_split : (a b r s : List ℕ) → LacksByte 32 a → LacksByte 32 b → a ++ (32 ∷ r) ≡ b ++ (32 ∷ s) → (a ≡ b) × (r ≡ s)
 same_split [] [] r s la lb e = (refl, cc)
 same_split [] (y ∷ b) r s la lb e = let h : y ≡ 32 = cc in absurd (lb 0 (omega arith) h)
 same_split (x ∷ a) [] r s la lb e = let h : x ≡ 32 = cc in absurd (la 0 (omega arith) h)
@@ -108,8 +105,3 @@ module _ {A : Type 0} (write : List ℕ → A → Type 0) (solid : (word : List 
       ⊎_elim (λ last. no_last write text rest done o (subst (LacksByte 32) last.0 cut.0) (λ x w. none x (subst (λ (t : List ℕ). write t x) (sym last.0) w)) values h)
       (λ next. no_word write solid text rest word rest' done o next.1 cut.0 none values h)
       cut.1
-
--- what a reader passes on of another's refusal, whatever was to be read
-pub reads_err : (Q Q' : Type 0) (e : Unread) → (Q → Q') → Reads {A = Unit {0}} (λ _. Unit {0}) Q (Err e) → Reads {A = Unit {0}} (λ _. Unit {0}) Q' (Err e)
-reads_err Q Q' NotUnderstood f h = f h
-reads_err Q Q' Memory f h = tt

@@ -8,3 +8,20 @@ abbrev pub Reads : {A : Type 0} → (A → Type 0) → Type 0 → Result A Unrea
 Reads P Q (Ok x) = P x
 Reads P Q (Err NotUnderstood) = Q
 Reads P Q (Err Memory) = Unit {0}
+
+-- the same where nothing is made, so that there is no want of memory
+abbrev pub Judges : {A : Type 0} → (A → Type 0) → Type 0 → Result A Unread → Type 0
+Judges P Q (Ok x) = P x
+Judges P Q (Err NotUnderstood) = Q
+Judges P Q (Err Memory) = ⊥
+
+-- nothing is as P says
+abbrev pub NoneIs : {A : Type 0} → (A → Type 0) → Type 0
+NoneIs P = (x : _) → P x → ⊥
+
+-- what was read is as P says, and it is not understood only where nothing is as P says
+abbrev pub Finds : {A : Type 0} → (A → Type 0) → Result A Unread → Type 0
+Finds P r = Reads P (NoneIs P) r
+
+abbrev pub Decides : {A : Type 0} → (A → Type 0) → Result A Unread → Type 0
+Decides P r = Judges P (NoneIs P) r

@@ -1,5 +1,5 @@
 -- The lines of a scenario, and what each asks for. Words are parted by one space, 32.
--- A command that was read is what its line says; that every such line is read is not said here.
+-- A line that says a command is read as one that it says, and a line that says none is not understood.
 use Rattle.std.specs.Prelude.{◌≡◌, ℕ, ◌<◌, ◌⊎◌, List, [], ◌∷◌, ◌++◌, length, Some, None, vec_items, codes, Option}
 use Rattle.std.specs.Borrow.{Bor}
 use Rattle.refusal.specs.Told.{area_name}

@@ -1,6 +1,6 @@
 // Decimal numbers.
 ghost use Rattle.std.specs.Prelude.{◌≡◌, ◌≢◌, ℕ, List, MatchResult, slice_index};
-ghost use Rattle.script.specs.Answers.{Reads};
+ghost use Rattle.script.specs.Answers.{Decides, NoneIs, Reads};
 ghost use Rattle.script.specs.Words.{Decimal, Integer, Number, Writes};
 ghost use Rattle.std.specs.Option.{SomeIff};
 ghost use Rattle.std.specs.Str.Iter.{LacksByte};
@@ -35,7 +35,7 @@ pub trait Entry: Sized {
     ghost writes: { List ℕ → Self → Type 0 };
 
     fn read(word: &str) -> Result<Self, Unread>
-        ensures { Reads (writes word.now) ((x : Self) → writes word.now x → ⊥) result };
+        ensures { Decides (writes word.now) result };
 
     // A word has no space in it.
     ghost solid: { (word : List ℕ) (x : Self) → writes word x → LacksByte 32 word };
@@ -106,7 +106,7 @@ impl Entry for i8 {
 
 // The values of words that are parted by one space.
 pub fn numbers<T: Entry + Drop>(heap: Global, text: &str) -> Result<Vec<T>, Unread>
-    ensures { Reads (λ v. Writes T.Entry.writes text.now v.items) ((values : List T) → Writes T.Entry.writes text.now values → ⊥) result }
+    ensures { Reads (λ v. Writes T.Entry.writes text.now v.items) (NoneIs (Writes T.Entry.writes text.now)) result }
 {
     let mut values = Vec::new(heap);
     'words: for word in text.split(' ') {

@@ -1,6 +1,6 @@
 // Hexadecimal digits, two to a byte.
 ghost use Rattle.std.specs.Prelude.{◌≡◌, ℕ, false, List, length, is_some, IfSome};
-ghost use Rattle.script.specs.Answers.{Reads};
+ghost use Rattle.script.specs.Answers.{NoneIs, Reads};
 ghost use Rattle.script.specs.Words.{Pair, Spells};
 
 use crate::unread::Unread;
@@ -18,7 +18,7 @@ fn pair(high: u8, low: u8) -> Option<u8>
 
 // The bytes that a word spells.
 pub fn hex_bytes(heap: Global, word: &[u8]) -> Result<Vec<u8>, Unread>
-    ensures { Reads (λ v. Spells word.now v.items) ((bytes : List ℕ) → Spells word.now bytes → ⊥) result }
+    ensures { Reads (λ v. Spells word.now v.items) (NoneIs (Spells word.now)) result }
 {
     let (pairs, odd) = word.as_chunks::<2>();
     if pairs.is_empty() || !odd.is_empty() {

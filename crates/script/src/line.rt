@@ -1,9 +1,11 @@
 // One line.
-ghost use Rattle.std.specs.Prelude.{◌≡◌, ℕ, List, ◌∷◌, ◌++◌, IfOk, Ok, codes};
+ghost use Rattle.std.specs.Prelude.{◌≡◌, ℕ, List, ◌∷◌, ◌++◌, Ok, codes};
 ghost use Rattle.refusal.specs.Told.{area_name};
+ghost use Rattle.script.specs.Answers.{Decides, Finds, Judges, NoneIs, Reads};
 ghost use Rattle.script.specs.Lines.{Asks, Calls, Fills, Listed, Quiet, Says, Valued, spaced};
 ghost use Rattle.script.specs.Streams.{stream_name};
 ghost use Rattle.script.specs.declared.command.Command.TheVariants.{Nothing};
+ghost use Rattle.std.specs.Str.Iter.{LacksByte};
 
 use crate::command::{Action, Call, Command, SetName, Shown, Supply};
 use crate::decimal::{Entry, numbers};
@@ -16,7 +18,8 @@ use std::str::from_utf8;
 
 // The first word, and what stands behind the space after it, if there is one.
 fn first_word(text: &str) -> (&str, Option<&str>)
-    ensures { text.now ≡ spaced result.0.now result.1 }
+    ensures parts { text.now ≡ spaced result.0.now result.1 }
+    ensures solid { LacksByte 32 result.0.now }
 {
     match text.split_once(' ') {
         Some((word, rest)) => (word, Some(rest)),
@@ -26,14 +29,15 @@ fn first_word(text: &str) -> (&str, Option<&str>)
 
 // What stands before the first space of a text, and behind it.
 fn parted(text: &str) -> Result<(&str, &str), Unread>
-    ensures { IfOk result (λ parts. text.now ≡ parts.0.now ++ (32 ∷ parts.1.now)) }
+    ensures { Judges (λ parts. (text.now ≡ parts.0.now ++ (32 ∷ parts.1.now)) × LacksByte 32 parts.0.now) (LacksByte 32 text.now) result }
 {
     text.split_once(' ').ok_or(Unread::NotUnderstood)
 }
 
 // The values of a list, of which there may be none.
 fn listed<T: Entry + Drop>(heap: Global, rest: Option<&str>) -> Result<Vec<T>, Unread>
-    ensures { IfOk result (λ v. (name : List ℕ) → Listed T.Entry.writes name (spaced name rest.entry) v.items) }
+    ensures { Reads (λ v. (name : List ℕ) → Listed T.Entry.writes name (spaced name rest.entry) v.items)
+        ((name : List ℕ) → NoneIs (Listed T.Entry.writes name (spaced name rest.entry))) result }
 {
     match rest {
         Some(text) => numbers::<T>(heap, text),
@@ -43,14 +47,15 @@ fn listed<T: Entry + Drop>(heap: Global, rest: Option<&str>) -> Result<Vec<T>, U
 
 // The one value behind a name.
 fn one<T: Entry>(rest: Option<&str>) -> Result<T, Unread>
-    ensures { IfOk result (λ x. (name : List ℕ) → Valued T.Entry.writes name (spaced name rest.entry) x) }
+    ensures { Judges (λ x. (name : List ℕ) → Valued T.Entry.writes name (spaced name rest.entry) x)
+        ((name : List ℕ) → NoneIs (Valued T.Entry.writes name (spaced name rest.entry))) result }
 {
     T::read(rest.ok_or(Unread::NotUnderstood)?)
 }
 
 // The area of a name. No `FromStr`: `Area` is another crate's, which would need an error type for this one use.
 fn named_area(name: &str) -> Result<Area, Unread>
-    ensures { IfOk result (λ area. name.now ≡ area_name area) }
+    ensures { Decides (λ area. name.now ≡ area_name area) result }
 {
     match name {
         "public" => Ok(Area::Public),
@@ -60,7 +65,7 @@ fn named_area(name: &str) -> Result<Area, Unread>
 }
 
 fn poke_at(area: Area, place: &str) -> Result<Action, Unread>
-    ensures { IfOk result (Asks (codes "poke " ++ (area_name area ++ (32 ∷ place.now)))) }
+    ensures { Decides (Asks (codes "poke " ++ (area_name area ++ (32 ∷ place.now)))) result }
 {
     let (index, value) = parted(place)?;
     Ok(Action::Poke {
@@ -71,20 +76,21 @@ fn poke_at(area: Area, place: &str) -> Result<Action, Unread>
 }
 
 fn poke(rest: Option<&str>) -> Result<Action, Unread>
-    ensures { IfOk result (Asks (spaced (codes "poke") rest.entry)) }
+    ensures { Decides (Asks (spaced (codes "poke") rest.entry)) result }
 {
     let (name, place) = parted(rest.ok_or(Unread::NotUnderstood)?)?;
     poke_at(named_area(name)?, place)
 }
 
 fn show(rest: Option<&str>) -> Result<Action, Unread>
-    ensures { IfOk result (Asks (spaced (codes "show") rest.entry)) }
+    ensures { Decides (Asks (spaced (codes "show") rest.entry)) result }
 {
     Ok(Action::Show(named_area(rest.ok_or(Unread::NotUnderstood)?)?))
 }
 
 fn generator(heap: Global, text: &str) -> Result<Supply, Unread>
-    ensures { IfOk result (λ s. (name : List ℕ) → Fills name (name ++ (codes " generator " ++ text.now)) s) }
+    ensures { Reads (λ s. (name : List ℕ) → Fills name (name ++ (codes " generator " ++ text.now)) s)
+        ((name : List ℕ) → NoneIs (Fills name (name ++ (codes " generator " ++ text.now)))) result }
 {
     let (seed, count) = parted(text)?;
     Ok(Supply::Generator {
@@ -95,7 +101,8 @@ fn generator(heap: Global, text: &str) -> Result<Supply, Unread>
 
 // What a word source is to become, by what stands behind its name.
 fn supply(heap: Global, text: &str) -> Result<Supply, Unread>
-    ensures { IfOk result (λ s. (name : List ℕ) → Fills name (name ++ (32 ∷ text.now)) s) }
+    ensures { Reads (λ s. (name : List ℕ) → Fills name (name ++ (32 ∷ text.now)) s)
+        ((name : List ℕ) → NoneIs (Fills name (name ++ (32 ∷ text.now)))) result }
 {
     match first_word(text) {
         ("tape", rest) => Ok(Supply::Tape(listed::<u32>(heap, rest)?)),
@@ -108,7 +115,7 @@ fn supply(heap: Global, text: &str) -> Result<Supply, Unread>
 }
 
 fn fill(heap: Global, stream: Stream, rest: Option<&str>) -> Result<Action, Unread>
-    ensures { IfOk result (Asks (spaced (stream_name stream) rest.entry)) }
+    ensures { Finds (Asks (spaced (stream_name stream) rest.entry)) result }
 {
     let text = rest.ok_or(Unread::NotUnderstood)?;
     Ok(Action::Fill {
@@ -118,13 +125,13 @@ fn fill(heap: Global, stream: Stream, rest: Option<&str>) -> Result<Action, Unre
 }
 
 fn new_till(rest: Option<&str>) -> Result<Action, Unread>
-    ensures { IfOk result (Asks (spaced (codes "till") rest.entry)) }
+    ensures { Decides (Asks (spaced (codes "till") rest.entry)) result }
 {
     Ok(Action::NewTill(rest.map(u16::read).transpose()?))
 }
 
 fn check(heap: Global, rest: Option<&str>) -> Result<Call, Unread>
-    ensures { IfOk result (Calls (spaced (codes "check") rest.entry)) }
+    ensures { Finds (Calls (spaced (codes "check") rest.entry)) result }
 {
     match rest {
         None => Ok(Call::Check(Shown::Bytes(Vec::new(heap)))),
@@ -134,7 +141,7 @@ fn check(heap: Global, rest: Option<&str>) -> Result<Call, Unread>
 }
 
 fn sign(heap: Global, text: &str) -> Result<Call, Unread>
-    ensures { IfOk result (Calls (codes "sign " ++ text.now)) }
+    ensures { Finds (Calls (codes "sign " ++ text.now)) result }
 {
     let (digest, tries) = parted(text)?;
     Ok(Call::Sign {
@@ -145,7 +152,7 @@ fn sign(heap: Global, text: &str) -> Result<Call, Unread>
 
 // A line that may be repeated.
 fn call(heap: Global, text: &str) -> Result<Call, Unread>
-    ensures { IfOk result (Calls text.now) }
+    ensures { Finds (Calls text.now) result }
 {
     match first_word(text) {
         ("check", rest) => check(heap, rest),
@@ -157,7 +164,7 @@ fn call(heap: Global, text: &str) -> Result<Call, Unread>
 }
 
 fn repeat(heap: Global, rest: Option<&str>) -> Result<Action, Unread>
-    ensures { IfOk result (Asks (spaced (codes "repeat") rest.entry)) }
+    ensures { Finds (Asks (spaced (codes "repeat") rest.entry)) result }
 {
     let (count, line) = parted(rest.ok_or(Unread::NotUnderstood)?)?;
     match u32::read(count)? {
@@ -170,7 +177,7 @@ fn repeat(heap: Global, rest: Option<&str>) -> Result<Action, Unread>
 }
 
 fn action(heap: Global, text: &str) -> Result<Action, Unread>
-    ensures { IfOk result (Asks text.now) }
+    ensures { Finds (Asks text.now) result }
 {
     match first_word(text) {
         ("load", None) => Ok(Action::Load),
@@ -192,7 +199,7 @@ fn action(heap: Global, text: &str) -> Result<Action, Unread>
 
 // The set of a name. No `FromStr`: for this one use it is the same match with its own clauses around it.
 fn start(name: &str) -> Result<Command, Unread>
-    ensures { IfOk result (Says (codes "set " ++ name.now)) }
+    ensures { Decides (Says (codes "set " ++ name.now)) result }
 {
     match name {
         "S" => Ok(Command::Start(SetName::S)),
@@ -202,7 +209,8 @@ fn start(name: &str) -> Result<Command, Unread>
 }
 
 fn command(heap: Global, text: &str) -> Result<Command, Unread>
-    ensures { IfOk result (Says text.now) }
+    requires { Quiet text.now → ⊥ }
+    ensures { Finds (Says text.now) result }
 {
     match first_word(text) {
         ("set", Some(name)) => start(name),
@@ -212,7 +220,7 @@ fn command(heap: Global, text: &str) -> Result<Command, Unread>
 
 // What a line asks for.
 pub fn parse(heap: Global, line: &[u8]) -> Result<Command, Unread>
-    ensures says { IfOk result (Says line.now) }
+    ensures says { Finds (Says line.now) result }
     ensures quiet { Quiet line.now → result ≡ Ok Nothing }
 {
     match line {

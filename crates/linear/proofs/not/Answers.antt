@@ -5,8 +5,8 @@ use Rattle.shares.proofs.Pairs.{recombine-joined}
 use Rattle.linear.proofs.Sharewise.{not_is}
 use Rattle.linear.proofs.not.Goals as goal
 
-pub returns : goal.returns
-returns g c =
+pub returns-clause-word : goal.returns-clause-word
+returns-clause-word g c =
     let hx : length c.args.x ≡ g.row.M = search rules in
     let f0 : Fits w32 (get_or c.args.x 0 0) = search rules in
     ap (λ (v : ℕ). word_of (set c.args.x 0 v)) (not_is 32 (get_or c.args.x 0 0) f0.fits)

@@ -1,12 +1,15 @@
 use mathlib.Core.Path.{refl}
+use Rattle.keccak.specs.Keccak.{iota, round, rounds, keccak_f}
+use Rattle.shake.specs.Sponge.{byte_of, xor_byte, xor_bytes, blocks, padding, padded, absorbed, later, shake_byte, shake_word}
+use Rattle.challenge.specs.Challenge.{challenge, filled, stream}
 use Rattle.plain.specs.Costs.{cost}
 use Rattle.plain.specs.Nonces.{bits, bits_from, candidate, coefficient, whole}
 use Rattle.shares.specs.Refresh.{pairs}
 use Rattle.rows.proofs.rows_hold.Goals as goal
 
-pub returns : goal.returns
-unfolding bits bits_from candidate coefficient cost pairs whole
-returns c = record {
+pub returns-clause-table : goal.returns-clause-table
+unfolding bits bits_from candidate coefficient cost pairs whole iota round rounds keccak_f byte_of xor_byte xor_bytes blocks padding padded absorbed later shake_byte shake_word
+returns-clause-table c = record {
   x_to_four = refl;
   product_row = refl;
   highest_positive = refl;
@@ -15,6 +18,7 @@ returns c = record {
   words_refreshed = refl;
   mask_of_low = refl;
   mask_of_high = refl;
+  generated = refl;
   challenge_byte = refl;
   sum_round = refl;
   sum_below = refl;
@@ -25,4 +29,18 @@ returns c = record {
   fails_far = refl;
   costs_of_two = refl;
   costs_of_one = refl;
+}
+
+pub returns-clause-payment : goal.returns-clause-payment
+unfolding iota round rounds keccak_f byte_of xor_byte xor_bytes blocks padding padded absorbed later shake_byte shake_word challenge filled stream
+returns-clause-payment c = record {
+  written = refl;
+  accepted = refl;
+  again = refl;
+  key_first = refl;
+  size_then_kind = refl;
+  kind_then_reach = refl;
+  reach_then_code = refl;
+  code_then_challenge = refl;
+  challenge_then_counter = refl;
 }

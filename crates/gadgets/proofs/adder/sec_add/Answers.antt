@@ -43,7 +43,7 @@ returns g c =
     let lx = word_fits 32 c.args.x (λ k. (fx k).fits) in
     let ly = word_fits 32 c.args.y (λ k. (fy k).fits) in
     let first : Carried 1 (carries_of X Y) (word_of c.in_ok-g.g) (word_of c.xor-sum.result) =
-    subst₂ (λ (a b : ℕ). Carried 1 (carries_of X Y) a b) (sym c.in_ok-g.ensures.by.1.1) (sym c.xor-sum.ensures) (carried_first X Y lx ly) in
+    subst₂ (λ (a b : ℕ). Carried 1 (carries_of X Y) a b) (sym c.in_ok-g.ensures.by.1.1) (sym c.xor-sum.ensures.word) (carried_first X Y lx ly) in
     let last = c.loop-level.invariant.0 (carries_of X Y) first in
     let s = spent_then (spent_then c.in_ok-g.ensures.by.0 (spent_as {b = 12 * pairs g.row.M} c.loop-level.invariant.1 (rw at (omega arith)))) c.in_ok-carried.ensures.by.0 in
     record {
@@ -51,6 +51,6 @@ returns g c =
         spent_as s (omega arith),
         sum_last X Y (word_of c.loop-level.g) (word_of c.loop-level.p) _ _ _ _ _ _ lx ly
             (subst (λ (n : ℕ). Carried (2 ^ n) (carries_of X Y) (word_of c.loop-level.g) (word_of c.loop-level.p)) at last)
-            c.shift_left.ensures c.in_ok-carried.ensures.by.1.1 c.xor.ensures c.xor-sum.ensures c.shift_left-2.ensures c.xor-2.ensures,
+            c.shift_left.ensures.word c.in_ok-carried.ensures.by.1.1 c.xor.ensures.word c.xor-sum.ensures.word c.shift_left-2.ensures.word c.xor-2.ensures.word,
       );
     }

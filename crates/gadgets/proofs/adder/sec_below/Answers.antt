@@ -13,7 +13,7 @@ returns g c =
     record {
       by = (
         spent_as (spent_then c.in_ok-minus.ensures.by.0 c.in_ok-difference.ensures.by.0) (omega arith),
-        c.top_bit.ensures ∙ ap (λ (v : ℕ). v / 2 ^ 31) (c.in_ok-difference.ensures.by.1 ∙ ap (λ (v : ℕ). (word_of c.args.x + v) % 2 ^ 32) e)
+        c.top_bit.ensures.word ∙ ap (λ (v : ℕ). v / 2 ^ 31) (c.in_ok-difference.ensures.by.1 ∙ ap (λ (v : ℕ). (word_of c.args.x + v) % 2 ^ 32) e)
             ∙ top_below (word_of c.args.x) k c.requires.small limit.some limit.small,
       );
     }
