@@ -2,7 +2,8 @@
 use Rattle.std.specs.Prelude.{◌≡◌, ℕ, ◌<◌, ◌≤◌, ◌⊎◌, List, [], ◌∷◌, ◌++◌, length, Some, None, vec_items, codes, decimal, Option}
 use Rattle.refusal.specs.Told.{area_name}
 use Rattle.refusal.specs.declared.Area.{Area}
-use Rattle.script.specs.Lines.{Quiet, Says}
+use Rattle.script.specs.Answers.{NoneIs}
+use Rattle.script.specs.Lines.{Says}
 use Rattle.script.specs.declared.command.Action.{Action}
 use Rattle.script.specs.declared.command.Action.TheVariants.{WordsOfA, WordsOfT, Secret, Shares, Fill, Load, Work, Room, Poke, Show, NewTill, Once, Repeat}
 use Rattle.script.specs.declared.command.Command.{Command}
@@ -67,9 +68,14 @@ abbrev pub PokesPast : Option World → List ℕ → Option World → Type 0
 PokesPast None line w' = ⊥
 PokesPast (Some w) line w' = (action : Action) × (next : World) × Says line (Act action) × Fails w action next NotUnderstood × (w' ≡ Some next)
 
--- a line that is not understood: nothing changes, and it is not one that asks for nothing; or it pokes past an end
+-- a line that wants a set, where none is chosen yet
+abbrev pub Early : Option World → List ℕ → Type 0
+Early None line = (action : Action) × Says line (Act action)
+Early (Some w) line = ⊥
+
+-- a line that is not understood: it says no command, or it comes too early, and nothing changes; or it pokes past an end
 abbrev pub Misses : Option World → List ℕ → Option World → Type 0
-Misses w line w' = ((Quiet line → ⊥) × (w' ≡ w)) ⊎ PokesPast w line w'
+Misses w line w' = ((NoneIs (Says line) ⊎ Early w line) × (w' ≡ w)) ⊎ PokesPast w line w'
 
 -- a line that was not carried out: it is not understood, or memory ended
 abbrev pub Stays : Option World → List ℕ → Option World → Unread → Type 0
