@@ -1,41 +1,4 @@
-//! The same work by the same algorithms in plain Rust.
-
-pub const N: usize = 512;
-pub const P: u32 = 8_383_489;
-const REACH: u16 = 16_384 - 32;
-const WEIGHT: u32 = 32;
-const KIND: u16 = 0x4701;
-pub const SIZE: usize = 40 + 4 * N + N / 4;
-
-fn is_polynomial(words: &[u32]) -> bool {
-    words.len() == N && words.iter().all(|&w| w < P)
-}
-
-/// The long product over a rotating factor: sums of 64 bits, and one remainder a coefficient.
-fn multiply(out: &mut [u32], a: &[u32], b: &[u32]) {
-    let mut sums = [0u64; N];
-    let mut factor = [0u32; N];
-    factor.copy_from_slice(b);
-    for &k in a {
-        for (sum, &x) in sums.iter_mut().zip(&factor) {
-            *sum += u64::from(k) * u64::from(x);
-        }
-        let top = factor[N - 1];
-        factor.copy_within(0..N - 1, 1);
-        factor[0] = if top == 0 { 0 } else { P - top };
-    }
-    for (x, sum) in out.iter_mut().zip(sums) {
-        *x = (sum % u64::from(P)) as u32;
-    }
-}
-
-pub fn product(out: &mut [u32], a: &[u32], b: &[u32]) -> u8 {
-    if out.len() != N || !is_polynomial(a) || !is_polynomial(b) {
-        return 1;
-    }
-    multiply(out, a, b);
-    0
-}
+//! SHAKE256.
 
 #[rustfmt::skip]
 const ROUND_CONSTANTS: [u64; 24] = [
@@ -97,13 +60,13 @@ fn permute(state: &mut [u64; 25]) {
 
 const RATE: usize = 136;
 
-struct Sponge {
+pub struct Sponge {
     state: [u64; 25],
     pos: usize,
 }
 
 impl Sponge {
-    fn new() -> Sponge {
+    pub fn new() -> Sponge {
         Sponge {
             state: [0; 25],
             pos: 0,
@@ -119,7 +82,7 @@ impl Sponge {
     }
 
     /// Whole lanes where the place allows it, else byte by byte.
-    fn absorb(&mut self, mut bytes: &[u8]) {
+    pub fn absorb(&mut self, mut bytes: &[u8]) {
         while !bytes.is_empty() {
             if self.pos % 8 == 0
                 && let Some((lane, rest)) = bytes.split_first_chunk::<8>()
@@ -135,8 +98,8 @@ impl Sponge {
         }
     }
 
-    /// Ends the message; `next_byte` and `next_u16` then give the output.
-    fn finish(&mut self) {
+    /// Ends the message; `next_byte`, `next_u16` and `next_u32` then give the output.
+    pub fn finish(&mut self) {
         self.state[self.pos / 8] ^= 0x1f << (8 * (self.pos % 8));
         self.state[RATE / 8 - 1] ^= 0x80 << 56;
         permute(&mut self.state);
@@ -150,9 +113,16 @@ impl Sponge {
     }
 
     /// Two bytes at an even place.
-    fn next_u16(&mut self) -> u16 {
+    pub fn next_u16(&mut self) -> u16 {
         let word = (self.state[self.pos / 8] >> (8 * (self.pos % 8))) as u16;
         self.advance(2);
+        word
+    }
+
+    /// Four bytes at a place that four divides.
+    pub fn next_u32(&mut self) -> u32 {
+        let word = (self.state[self.pos / 8] >> (8 * (self.pos % 8))) as u32;
+        self.advance(4);
         word
     }
 }
@@ -164,84 +134,4 @@ pub fn shake256(message: &[u8], out: &mut [u8]) {
     for byte in out {
         *byte = sponge.next_byte();
     }
-}
-
-fn challenge(c: &mut [u32; N], r: &[u32; N], digest: &[u8], counter: u16) {
-    let mut sponge = Sponge::new();
-    for x in r {
-        sponge.absorb(&x.to_le_bytes());
-    }
-    sponge.absorb(digest);
-    sponge.absorb(&counter.to_le_bytes());
-    sponge.finish();
-    let mut wanted = WEIGHT;
-    for _ in 0..512 {
-        if wanted == 0 {
-            break;
-        }
-        let word = sponge.next_u16();
-        let place = usize::from(word) % N;
-        if c[place] == 0 {
-            c[place] = if word >= 0x8000 { P - 1 } else { 1 };
-            wanted -= 1;
-        }
-    }
-}
-
-/// All tests of a till in their order: 0 where the record is accepted, else the refusal's number.
-pub fn check(key: &[u32], bytes: &[u8], last: Option<u16>) -> u8 {
-    if key.len() != 2 * N {
-        return 2;
-    }
-    if key.iter().any(|&w| w >= P) {
-        return 3;
-    }
-    if bytes.len() != SIZE || bytes[..4] != (SIZE as u32 - 4).to_le_bytes() {
-        return 6;
-    }
-    if bytes[4..6] != KIND.to_le_bytes() {
-        return 7;
-    }
-    let counter = u16::from_le_bytes([bytes[6], bytes[7]]);
-    let digest = &bytes[8..40];
-    let (z_bytes, c_bytes) = bytes[40..].split_at(4 * N);
-    let integer = |pair: &[u8]| i16::from_le_bytes([pair[0], pair[1]]);
-    if z_bytes
-        .chunks_exact(2)
-        .any(|pair| integer(pair).unsigned_abs() > REACH)
-    {
-        return 8;
-    }
-    if (0..N).any(|i| c_bytes[i / 4] >> (2 * (i % 4)) & 3 == 2) {
-        return 9;
-    }
-
-    let mut z = [0u32; 2 * N];
-    for (x, pair) in z.iter_mut().zip(z_bytes.chunks_exact(2)) {
-        let v = i32::from(integer(pair));
-        *x = if v < 0 { v + P as i32 } else { v } as u32;
-    }
-    let mut c = [0u32; N];
-    for (i, x) in c.iter_mut().enumerate() {
-        let code = c_bytes[i / 4] >> (2 * (i % 4)) & 3;
-        *x = if code == 3 { P - 1 } else { u32::from(code) };
-    }
-    let (a, t) = key.split_at(N);
-    let (z1, z2) = z.split_at(N);
-    let mut tc = [0u32; N];
-    let mut r = [0u32; N];
-    multiply(&mut tc, t, &c);
-    multiply(&mut r, a, z1);
-    for ((x, &plus), &minus) in r.iter_mut().zip(z2).zip(&tc) {
-        *x = (*x + plus + (P - minus)) % P;
-    }
-    let mut expected = [0u32; N];
-    challenge(&mut expected, &r, digest, counter);
-    if expected != c {
-        return 10;
-    }
-    if last.is_some_and(|last| counter <= last) {
-        return 24;
-    }
-    0
 }
