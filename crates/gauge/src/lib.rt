@@ -128,7 +128,7 @@ pub extern "C" fn cavrudez_gauge_tape(
 ) -> u8
     ensures { Gauged (set_of field) number shares x.now y.now out.old out.new (length words.now) result }
 {
-    match Tape::lent(words) {
+    match Tape::new(words) {
         Ok(mut masks) => gauge_in_set(field, number, shares, out, x, y, &mut masks),
         Err(_) => status(Err(Refusal::SourceRange)),
     }
