@@ -65,6 +65,8 @@ pub fn clear(key: &mut [u32])
 }
 
 // Puts shares of a value into the key area, as coefficient c.
+// Each function that writes the area asks for its length: a struct with the `&mut` in it would need a clause in each, and a fact in each
+// loop, that it lends the same area still.
 fn load_coefficient<const M: usize, S: ParamSet, W: Source>(
     value: u32,
     key: &mut [u32],
