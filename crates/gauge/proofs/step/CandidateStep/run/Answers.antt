@@ -25,10 +25,10 @@ returns-in-Ok g c =
     let whole : ws ≡ c.args.x = ap (λ (f : Flow). f.words) c.of_few-nonces.ensures in
     let all : take m ws ≡ c.args.x = ap (take m) whole ∙ take_all m c.args.x (omega arith) in
     let same : candidate_of c.candidate_bits.result m ws ≡ word_of c.args.x % 2 ^ bits u = ap (λ (xs : List ℕ). word_of xs % 2 ^ c.candidate_bits.result) all ∙ ap (λ (b : ℕ). word_of c.args.x % 2 ^ b) c.candidate_bits.ensures.is in
-    let v = judged c.candidate_limit.result (candidate_of c.candidate_bits.result m ws) m c.in-Ok.accepted d.2 in
+    let v = judged c.candidate_limit.result.value (candidate_of c.candidate_bits.result m ws) m c.in-Ok.accepted d.2 in
     record {
       by = (
         d.1,
-        ap word_of c.unwrap_or.ensures ∙ v ∙ ap (λ (x : ℕ). cond (ltb x c.candidate_limit.result) x 0) same ∙ ap (λ (l : ℕ). cond (ltb (word_of c.args.x % 2 ^ bits u) l) (word_of c.args.x % 2 ^ bits u) 0) c.candidate_limit.ensures,
+        ap word_of c.unwrap_or.ensures ∙ v ∙ ap (λ (x : ℕ). cond (ltb x c.candidate_limit.result.value) x 0) same ∙ ap (λ (l : ℕ). cond (ltb (word_of c.args.x % 2 ^ bits u) l) (word_of c.args.x % 2 ^ bits u) 0) c.candidate_limit.ensures,
       );
     }
