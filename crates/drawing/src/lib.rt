@@ -65,10 +65,9 @@ fn convert<const M: usize, S: ParamSet, W: Source>(
     requires below { word_of x < limit S.params }
     ensures { Spends (mask_words S.params * (M - 1) + (M + 1) * (33 * pairs M)) result (W.flow masks.old) (W.flow masks.new) (λ y. Within (residue_rule S.params.p) y × (residue_of S.params.p y ≡ coefficient S.params (word_of x.entry))) }
 {
-    let ring = ResidueGroup::of::<S>();
-    let mut y = to_residues(x, ring, masks)?;
-    let less = ring.inverse(S::nonce_bound());
-    y[0] = ring.join(y[0], less);
+    let mut y = to_residues::<M, S, W>(x, masks)?;
+    let less = ResidueGroup::<S>::inverse(S::nonce_bound());
+    y[0] = ResidueGroup::<S>::join(y[0], less);
     Ok(y)
 }
 

@@ -22,7 +22,7 @@ fn widen<const M: usize, S: Source>(
 {
     let carried = sec_and(shift_left(g, places), p, src)?;
     // Both operands of the next sec_and come from p, so one is refreshed.
-    let shifted = fresh(&Words, shift_left(p, places), src)?;
+    let shifted = fresh::<M, Words, S>(shift_left(p, places), src)?;
     let run = sec_and(p, shifted, src)?;
     Ok((xor(g, carried), run))
 }
@@ -56,7 +56,7 @@ pub fn sec_below<const M: usize, S: Source>(
     requires small { word_of x < 2 ^ 31 }
     ensures { Spends (15 * pairs M) result (S.flow src.old) (S.flow src.new) (λ z. word_of z ≡ is_below (word_of x.entry) limit.value) }
 {
-    let minus = fresh(&Words, public(negated(limit.value)), src)?;
+    let minus = fresh::<M, Words, S>(public(negated(limit.value)), src)?;
     let difference = sec_add(x, minus, src)?;
     Ok(top_bit(difference))
 }

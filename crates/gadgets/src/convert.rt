@@ -7,41 +7,40 @@ ghost use Rattle.shares.specs.Refresh.{pairs};
 
 use crate::modular::sec_add_modp;
 use linear::{each, public};
+use params::ParamSet;
 use shares::{Group, Residues, Shares, Words, draw_masks, fresh, open};
 use words::{Mark, Source};
 
 /// Word shares of the residue that `x` stands for. Each residue share is shared anew as a word, and these are added.
-pub fn to_words<const M: usize, S: Source>(
+pub fn to_words<const M: usize, P: ParamSet, S: Source>(
     x: Shares<M>,
-    ring: Residues,
     src: &mut S,
 ) -> Result<Shares<M>, Mark>
     requires some { 0 < M }
-    requires within { Within (residue_rule ring.p) x }
-    ensures { Spends (M * (33 * pairs M)) result (S.flow src.old) (S.flow src.new) (λ z. word_of z ≡ residue_of ring.p x.entry) }
+    requires within { Within (residue_rule P.params.p) x }
+    ensures { Spends (M * (33 * pairs M)) result (S.flow src.old) (S.flow src.new) (λ z. word_of z ≡ residue_of P.params.p x.entry) }
 {
     let mut sum = [0; M];
     for share in x {
-        let part = fresh(&Words, public(share), src)?;
-        sum = sec_add_modp(sum, part, ring, src)?;
+        let part = fresh::<M, Words, S>(public(share), src)?;
+        sum = sec_add_modp::<M, P, S>(sum, part, src)?;
     }
     Ok(sum)
 }
 
 /// Residue shares of the word that `x` stands for. All shares but the first are masks; the first is what they leave of the word, opened.
-pub fn to_residues<const M: usize, S: Source>(
+pub fn to_residues<const M: usize, P: ParamSet, S: Source>(
     x: Shares<M>,
-    ring: Residues,
     src: &mut S,
 ) -> Result<Shares<M>, Mark>
     requires some { 0 < M }
-    requires below { word_of x < ring.p }
-    ensures { Spends ((residue_rule ring.p).cost * (M - 1) + (M + 1) * (33 * pairs M)) result (S.flow src.old) (S.flow src.new) (λ z. Within (residue_rule ring.p) z × (residue_of ring.p z ≡ word_of x.entry)) }
+    requires below { word_of x < P.params.p }
+    ensures { Spends ((residue_rule P.params.p).cost * (M - 1) + (M + 1) * (33 * pairs M)) result (S.flow src.old) (S.flow src.new) (λ z. Within (residue_rule P.params.p) z × (residue_of P.params.p z ≡ word_of x.entry)) }
 {
-    let mut out = draw_masks(&ring, src)?;
-    let negatives = each(out, |share| ring.inverse(share));
-    let less = to_words(negatives, ring, src)?;
-    let rest = sec_add_modp(less, x, ring, src)?;
-    out[0] = open(&Words, rest, src)?;
+    let mut out = draw_masks::<M, Residues<P>, S>(src)?;
+    let negatives = each(out, |share| Residues::<P>::inverse(share));
+    let less = to_words::<M, P, S>(negatives, src)?;
+    let rest = sec_add_modp::<M, P, S>(less, x, src)?;
+    out[0] = open::<M, Words, S>(rest, src)?;
     Ok(out)
 }

@@ -45,7 +45,7 @@ impl<const M: usize> Step<M> for RefreshWords {
         requires count { (0 < M) × (M ≤ 8) }
         ensures { Spends (cost Gadget.RefreshWords M) result (W.flow masks.old) (W.flow masks.new) (Gives S.params M Gadget.RefreshWords x.entry y.entry) }
     {
-        fresh(&Words, x, masks)
+        fresh::<M, Words, W>(x, masks)
     }
 }
 
@@ -58,7 +58,7 @@ impl<const M: usize> Step<M> for RefreshResidues {
         requires count { (0 < M) × (M ≤ 8) }
         ensures { Spends (cost Gadget.RefreshResidues M) result (W.flow masks.old) (W.flow masks.new) (Gives S.params M Gadget.RefreshResidues x.entry y.entry) }
     {
-        fresh(&Residues::of::<S>(), small::<M, S>(x), masks)
+        fresh::<M, Residues<S>, W>(small::<M, S>(x), masks)
     }
 }
 
@@ -97,8 +97,7 @@ impl<const M: usize> Step<M> for SecAddModp {
         requires count { (0 < M) × (M ≤ 8) }
         ensures { Spends (cost Gadget.SecAddModp M) result (W.flow masks.old) (W.flow masks.new) (Gives S.params M Gadget.SecAddModp x.entry y.entry) }
     {
-        let ring = Residues::of::<S>();
-        sec_add_modp(small::<M, S>(x), small::<M, S>(y), ring, masks)
+        sec_add_modp::<M, S, W>(small::<M, S>(x), small::<M, S>(y), masks)
     }
 }
 
@@ -111,7 +110,7 @@ impl<const M: usize> Step<M> for ToWords {
         requires count { (0 < M) × (M ≤ 8) }
         ensures { Spends (cost Gadget.ToWords M) result (W.flow masks.old) (W.flow masks.new) (Gives S.params M Gadget.ToWords x.entry y.entry) }
     {
-        to_words(small::<M, S>(x), Residues::of::<S>(), masks)
+        to_words::<M, S, W>(small::<M, S>(x), masks)
     }
 }
 
@@ -124,7 +123,7 @@ impl<const M: usize> Step<M> for ToResidues {
         requires count { (0 < M) × (M ≤ 8) }
         ensures { Spends (cost Gadget.ToResidues M) result (W.flow masks.old) (W.flow masks.new) (Gives S.params M Gadget.ToResidues x.entry y.entry) }
     {
-        to_residues(small::<M, S>(x), Residues::of::<S>(), masks)
+        to_residues::<M, S, W>(small::<M, S>(x), masks)
     }
 }
 
@@ -137,7 +136,7 @@ impl<const M: usize> Step<M> for Open {
         requires count { (0 < M) × (M ≤ 8) }
         ensures { Spends (cost Gadget.Open M) result (W.flow masks.old) (W.flow masks.new) (Gives S.params M Gadget.Open x.entry y.entry) }
     {
-        let value = open(&Residues::of::<S>(), small::<M, S>(x), masks)?;
+        let value = open::<M, Residues<S>, W>(small::<M, S>(x), masks)?;
         Ok(public(value))
     }
 }
@@ -174,7 +173,6 @@ impl<const M: usize> Step<M> for CheckCoefficient {
         requires count { (0 < M) × (M ≤ 8) }
         ensures { Spends (cost Gadget.CheckCoefficient M) result (W.flow masks.old) (W.flow masks.new) (Gives S.params M Gadget.CheckCoefficient x.entry y.entry) }
     {
-        let ring = Residues::of::<S>();
-        check_coefficient(small::<M, S>(x), y, S::reach(), ring, masks)
+        check_coefficient::<M, S, W>(small::<M, S>(x), y, masks)
     }
 }

@@ -38,7 +38,7 @@ fn remask_coefficient<const M: usize, S: ParamSet, W: Source>(
 {
     let n = S::degree();
     let mut shares: Shares<M> = gather(key, n, c);
-    let outcome = refresh(&Residues::of::<S>(), &mut shares, masks);
+    let outcome = refresh::<M, Residues<S>, W>(&mut shares, masks);
     scatter(shares, key, n, c);
     outcome
 }

@@ -81,7 +81,7 @@ fn load_coefficient<const M: usize, S: ParamSet, W: Source>(
     ensures split { Spends ((residue_rule S.params.p).cost * (M - 1)) result (W.flow masks.old) (W.flow masks.new) (λ _. Splits (residue_rule S.params.p) M (W.flow masks.old).words value (shares_of S.params.n M key.new c)) }
     ensures others { (k : ℕ) → k ≢ c → shares_of S.params.n M key.new k ≡ shares_of S.params.n M key.old k }
 {
-    let shares: Shares<M> = split(&Residues::of::<S>(), value, masks)?;
+    let shares: Shares<M> = split::<M, Residues<S>, W>(value, masks)?;
     scatter(shares, key, S::degree(), c);
     Ok(())
 }

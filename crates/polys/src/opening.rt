@@ -25,9 +25,8 @@ pub fn open_coefficient<const M: usize, S: ParamSet, W: Source>(
     requires residues { Residues S.params.p area.now }
     ensures { Spends ((residue_rule S.params.p).cost * pairs M) result (W.flow masks.old) (W.flow masks.new) (λ v. v ≡ recombine (residue_rule S.params.p) (shares_of S.params.n M area.now c)) }
 {
-    let ring = shares::Residues::of::<S>();
     let shares = coefficient::<M, S>(area, c);
-    open(&ring, shares, masks)
+    open::<M, shares::Residues<S>, W>(shares, masks)
 }
 
 impl<'a, const K: usize, const M: usize, S: ParamSet> Shared<'a, K, M, S> {

@@ -113,16 +113,15 @@ module _ (s : Params) (m : ℕ) (area : List ℕ) (f₀ : Flow) where
   unfolding values
   passing-none pass e = record { spent = spent_as (spent_none f₀) (sym (times_none cost)); bit = e }
 
-  pub passing-more : (c : ℕ) (xs pass pass' : List ℕ) (p k : ℕ) {f f' : Flow} → p ≡ s.p → k ≡ reach s → xs ≡ shares_of s.n m area c → value c < s.p → 2 * reach s + 1 < s.p
-      → Spent cost f f' → word_of pass' ≡ bit_and (is_below ((residue_of p xs + k) % p) (2 * k + 1)) (word_of pass) → Passing c pass f → Passing (c + 1) pass' f'
-  passing-more c xs pass pass' p k a b d small room t e g =
+  pub passing-more : (c : ℕ) (xs pass pass' : List ℕ) {f f' : Flow} → xs ≡ shares_of s.n m area c → value c < s.p → 2 * reach s + 1 < s.p
+      → Spent cost f f' → word_of pass' ≡ bit_and (is_below ((residue_of s.p xs + reach s) % s.p) (2 * reach s + 1)) (word_of pass) → Passing c pass f → Passing (c + 1) pass' f'
+  passing-more c xs pass pass' d small room t e g =
       let q = s.p in
       let r = reach s in
       record {
         spent = spent_as (spent_then g.spent t) (times_more c cost);
         bit =
             e
-            ∙ ap₂ (λ (u v : ℕ). bit_and (is_below ((residue_of u xs + v) % u) (2 * v + 1)) (word_of pass)) a b
             ∙ ap₂ (λ (ys : List ℕ) (w : ℕ). bit_and (is_below ((residue_of q ys + r) % q) (2 * r + 1)) w) d g.bit
             ∙ ap (λ (t : Bool). bit_and (pass_bit t) (pass_bit (near_before c))) (moved-near q r (value c) small room)
             ∙ both_bits (not (far s (centre q (value c)))) (near_before c)

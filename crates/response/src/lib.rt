@@ -26,11 +26,10 @@ fn pass<const M: usize, S: ParamSet, W: Source>(
 ) -> Result<Shares<M>, Mark>
     ensures { Spends (2 * S.params.n * ((33 * M + 16) * pairs M)) result (W.flow masks.old) (W.flow masks.new) (λ q. word_of q ≡ pass_bit (all_near S.params (map (centre S.params.p) (recombined S.params M z.entry.area.now)))) }
 {
-    let ring = shares::Residues::of::<S>();
     let mut pass = public(1);
     // By number: the shares of a coefficient stand apart in the area.
     'coefficients: for c in 0..coefficients::<S>() {
-        pass = check_coefficient(z.coefficient(c), pass, S::reach(), ring, masks)?;
+        pass = check_coefficient::<M, S, W>(z.coefficient(c), pass, masks)?;
     }
     Ok(pass)
 }
@@ -43,7 +42,7 @@ pub fn check<const M: usize, S: ParamSet, W: Source>(
     ensures { Spends (2 * S.params.n * ((33 * M + 16) * pairs M) + pairs M) result (W.flow masks.old) (W.flow masks.new) (λ b. b ≡ all_near S.params (map (centre S.params.p) (recombined S.params M z.entry.area.now))) }
 {
     let shares = pass(z, masks)?;
-    let bit = open(&Words, shares, masks)?;
+    let bit = open::<M, Words, W>(shares, masks)?;
     Ok(bit == 1)
 }
 

@@ -1,12 +1,10 @@
 -- The loops over coefficients, place by place, and the long product's.
-use Rattle.std.proofs.Common.{◌≡◌, ℕ, zero, suc, ◌+◌, ◌-◌, ◌*◌, ◌%◌, ◌^◌, ◌<◌, ◌≤◌, List, [], ◌∷◌, ◌++◌, length, get_or, take, drop, replicate, sym, refl, ap, ◌∙◌, ap₂, add-zero, add_assoc, zero-add, arith}
+use Rattle.std.proofs.Common.{◌≡◌, ℕ, zero, suc, ◌+◌, ◌-◌, ◌*◌, ◌%◌, ◌^◌, ◌<◌, ◌≤◌, List, [], ◌∷◌, ◌++◌, length, get_or, map, take, drop, replicate, sym, refl, ap, ◌∙◌, subst, ap₂, add-zero, add_assoc, zero-add, mod-lt, arith}
 use native.Mathlib.Nat.{add-mod-mod, mod-add-mod}
-use Rattle.std.proofs.lemmas.List.{ext_get_or}
+use Rattle.std.proofs.lemmas.List.{ext_get_or, get_or-take, get_or-drop, get_or-map, get_or_append_left, get_or-append_right, length-append, length-map, length-take-le, length-drop}
 use Rattle.std.proofs.lemmas.Nat.{mul-lt}
-use Rattle.std.specs.List.{slice_get}
-use Rattle.std.specs.Option.{unwrap_or}
-use Rattle.ring.specs.Ring.{Residues, reduced, zip_with, plus, scale, last_of, shift_in, times_x, zeros, product}
-use Rattle.ring.proofs.Polynomials.{cons, length_zip, get_d_zip}
+use Rattle.ring.specs.Ring.{negate, Residues, reduced, zip_with, plus, scale, last_of, shift_in, times_x, zeros, product}
+use Rattle.ring.proofs.Polynomials.{cons, residues_append, length_zip, get_d_zip, length-times_x}
 use Rattle.ring.proofs.Algebra.{product-times_x, length-product, reduced-product}
 
 -- f of xs and ys is written over xs: the places below i hold it, and the others are as they were
@@ -18,19 +16,80 @@ zipping_all f xs ys zs i z h d e =
     ext_get_or 0 zs (zip_with f xs ys) (d ∙ e ∙ sym (length_zip f xs ys e))
     (λ k l. z.0 k (omega arith) ∙ sym (get_d_zip f xs ys k (omega arith) (omega arith)))
 
--- each coefficient goes up one place: what xs comes to once the places from i on are done
-abbrev pub Shifting : List ℕ → ℕ → ℕ → List ℕ
-Shifting xs carry i = take i xs ++ shift_in carry (drop i xs)
+-- the last place
+last-at : (x : ℕ) (xs : List ℕ) → last_of x xs ≡ get_or (x ∷ xs) (length xs) 0
+last-at x [] = refl
+last-at x (y ∷ ys) = last-at y ys
 
-last_from : (x : ℕ) (xs : List ℕ) → unwrap_or (slice_get (x ∷ xs) (length xs)) 0 ≡ last_of x xs
-last_from x [] = refl
-last_from x (y ∷ ys) = last_from y ys
-
-pub last_is : (xs : List ℕ) → unwrap_or (slice_get xs (length xs - 1)) 0 ≡ last_of 0 xs
-last_is [] = refl
-last_is (x ∷ xs) =
+-- the places of x times a polynomial
+times_x-first : (p : ℕ) (xs : List ℕ) → 0 < length xs → get_or (times_x p xs) 0 0 ≡ negate p (get_or xs (length xs - 1) 0)
+times_x-first p [] h = absurd (omega arith)
+times_x-first p (x ∷ xs) h =
     let e : suc (length xs) - 1 ≡ length xs = omega arith in
-    ap (λ (t : ℕ). unwrap_or (slice_get (x ∷ xs) t) 0) e ∙ last_from x xs
+    ap (negate p) (last-at x xs ∙ ap (λ (t : ℕ). get_or (x ∷ xs) t 0) (sym e))
+
+shifted-at : (c : ℕ) (xs : List ℕ) (k : ℕ) → suc k < length xs → get_or (shift_in c xs) (suc k) 0 ≡ get_or xs k 0
+shifted-at c [] k h = absurd (omega arith)
+shifted-at c (x ∷ []) k h = absurd (omega arith)
+shifted-at c (x ∷ y ∷ ys) zero h = refl
+shifted-at c (x ∷ y ∷ ys) (suc k) h = shifted-at x (y ∷ ys) k (omega arith)
+
+-- xⁱ · b, as it stands in −b and then b
+abbrev pub Turned : ℕ → ℕ → List ℕ → ℕ → List ℕ
+Turned p n b i = take n (drop (n - i) (map (negate p) b ++ b))
+
+negate-residues : (p : ℕ) (xs : List ℕ) → 0 < p → Residues p (map (negate p) xs)
+negate-residues p xs some k h = subst (λ (v : ℕ). v < p) (sym (get_or-map (negate p) xs k 0 0 (omega (arith, length-map xs (negate p))))) (mod-lt _ some)
+
+module _ (p n : ℕ) (b : List ℕ) (long : length b ≡ n) where
+  length-unrolled : length (map (negate p) b ++ b) ≡ 2 * n
+  length-unrolled = length-append (map (negate p) b) b ∙ ap (λ (k : ℕ). k + length b) (length-map b (negate p)) ∙ omega arith
+
+  turned-at : (i k : ℕ) → k < n → get_or (Turned p n b i) k 0 ≡ get_or (map (negate p) b ++ b) (n - i + k) 0
+  turned-at i k h = get_or-take n (drop (n - i) (map (negate p) b ++ b)) k 0 h ∙ get_or-drop (n - i) (map (negate p) b ++ b) k 0
+
+  pub length-turned : (i : ℕ) → length (Turned p n b i) ≡ n
+  length-turned i = length-take-le n (drop (n - i) (map (negate p) b ++ b)) (omega (arith, length-drop (n - i) (map (negate p) b ++ b), length-unrolled))
+
+  pub turned-residues : (i : ℕ) → 0 < p → Residues p b → Residues p (Turned p n b i)
+  turned-residues i some r k h =
+      let l : k < n = omega (arith, length-turned i) in
+      subst (λ (v : ℕ). v < p) (sym (turned-at i k l))
+      (residues_append p (map (negate p) b) b (negate-residues p b some) r (n - i + k) (omega (arith, length-unrolled)))
+
+  -- as a range of the words
+  pub turned-range : (d i : ℕ) (us : List ℕ) → d ≡ n → i < n → us ≡ map (negate p) b ++ b → take (2 * d - i - (d - i)) (drop (d - i) us) ≡ Turned p n b i
+  turned-range d i us e h u =
+      let w : 2 * d - i - (d - i) ≡ n = omega arith in
+      let s : d - i ≡ n - i = omega arith in
+      rw (w, s, u) refl
+
+  pub turned-none : Turned p n b 0 ≡ b
+  turned-none =
+      ext_get_or 0 (Turned p n b 0) b (length-turned 0 ∙ sym long)
+      (λ k h. let l : k < n = omega (arith, length-turned 0) in
+      turned-at 0 k l ∙ get_or-append_right (map (negate p) b) b n (n - 0 + k) 0 (length-map b (negate p) ∙ long) (omega arith) ∙ ap (λ (t : ℕ). get_or b t 0) (omega arith))
+
+  -- one more factor x
+  turned-next : (i : ℕ) → i < n → (k : ℕ) → k < n → get_or (times_x p (Turned p n b i)) k 0 ≡ get_or (Turned p n b (i + 1)) k 0
+  turned-next i less zero h =
+      times_x-first p (Turned p n b i) (omega (arith, length-turned i))
+      ∙ ap (λ (t : ℕ). negate p (get_or (Turned p n b i) (t - 1) 0)) (length-turned i)
+      ∙ ap (negate p) (turned-at i (n - 1) (omega arith) ∙ get_or-append_right (map (negate p) b) b n (n - i + (n - 1)) 0 (length-map b (negate p) ∙ long) (omega arith))
+      ∙ sym (get_or-map (negate p) b (n - i + (n - 1) - n) 0 0 (omega arith))
+      ∙ sym (get_or_append_left (map (negate p) b) b 0 (n - i + (n - 1) - n) (omega (arith, length-map b (negate p))))
+      ∙ ap (λ (t : ℕ). get_or (map (negate p) b ++ b) t 0) (omega arith)
+      ∙ sym (turned-at (i + 1) 0 (omega arith))
+  turned-next i less (suc k) h =
+      shifted-at _ (Turned p n b i) k (omega (arith, length-turned i))
+      ∙ turned-at i k (omega arith)
+      ∙ ap (λ (t : ℕ). get_or (map (negate p) b ++ b) t 0) (omega arith)
+      ∙ sym (turned-at (i + 1) (suc k) h)
+
+  pub turned-more : (i : ℕ) → i < n → times_x p (Turned p n b i) ≡ Turned p n b (i + 1)
+  turned-more i less =
+      ext_get_or 0 (times_x p (Turned p n b i)) (Turned p n b (i + 1)) (length-times_x p (Turned p n b i) ∙ length-turned i ∙ sym (length-turned (i + 1)))
+      (λ k h. turned-next i less k (omega (arith, length-times_x p (Turned p n b i), length-turned i)))
 
 -- a product of two numbers of 24 bits
 pub small_product : (k x : ℕ) → k < 2 ^ 24 → x < 2 ^ 24 → k * x < 2 ^ 48

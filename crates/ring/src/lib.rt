@@ -1,8 +1,8 @@
 // Residues modulo p, and polynomials of n residues modulo xⁿ + 1, for any parameter set.
 #![tactic(auto)]
 
-ghost use Rattle.std.specs.Prelude.{◌≡◌, ⊤, ◌+◌, ◌-◌, ◌*◌, ◌%◌, ◌^◌, ◌<◌, length, if◌then◌else◌, nat_le};
-ghost use Rattle.ring.specs.Ring.{negate, residue, centre, Residues, reduced, zip_with, plus, minus, last_of, shift_in, times_x, zeros, product};
+ghost use Rattle.std.specs.Prelude.{◌≡◌, ⊤, ◌+◌, ◌-◌, ◌*◌, ◌%◌, ◌^◌, ◌<◌, ◌++◌, map, length, if◌then◌else◌, nat_le};
+ghost use Rattle.ring.specs.Ring.{negate, residue, centre, Residues, reduced, zip_with, plus, minus, zeros, product};
 ghost use Rattle.ring.specs.Laws.{Proper, RingLaws, CentringLaws};
 
 use params::ParamSet;
@@ -158,42 +158,31 @@ fn add_scaled<S: ParamSet>(acc: &mut [u64], k: u32, x: Poly<'_, S>)
     }
 }
 
-// The last coefficient, 0 where there is none.
-fn last(b: &[u32]) -> u32
-    ensures { result ≡ last_of 0 b.now }
+// −b and then b: the n words from place n − i on are xⁱ · b.
+fn unroll<S: ParamSet>(out: &mut [u32], b: Poly<'_, S>)
+    requires { length out.old ≡ 2 * S.params.n }
+    ensures { out.new ≡ map (negate S.params.p) b.entry.words.now ++ b.entry.words.now }
 {
-    b.last().copied().unwrap_or(0)
-}
-
-// Each coefficient goes up one place, and c comes in at the bottom.
-fn shift_in(b: &mut [u32], c: u32)
-    ensures { b.new ≡ shift_in c b.old }
-{
-    let mut carry = c;
-    for coefficient in b.iter_mut() {
-        std::mem::swap(coefficient, &mut carry);
+    let (negative, positive) = out.split_at_mut(S::degree());
+    for (i, coefficient) in negative.iter_mut().enumerate() {
+        *coefficient = negated::<S>(b.words[i]);
     }
-}
-
-// x times a polynomial.
-fn times_x<S: ParamSet>(b: &mut [u32])
-    ensures { b.new ≡ times_x S.params.p b.old }
-{
-    let top = last(b);
-    shift_in(b, negated::<S>(top));
+    positive.copy_from_slice(b.words);
 }
 
 // Sums a's coefficients times b, x · b, x² · b and so on. A sum of n products stays below 2⁵⁸, so it is reduced once, at the
 // end.
-fn accumulate<S: ParamSet>(acc: &mut [u64], a: Poly<'_, S>, b: &mut [u32])
+fn accumulate<S: ParamSet>(acc: &mut [u64], a: Poly<'_, S>, b: Poly<'_, S>)
     requires room { length acc.old ≡ S.params.n }
     requires empty { acc.old ≡ zeros acc.old }
-    requires b { Proper S.params.n S.params.p b.old }
-    ensures { reduced S.params.p acc.new ≡ product S.params.p a.entry.words.now b.old }
+    ensures { reduced S.params.p acc.new ≡ product S.params.p a.entry.words.now b.entry.words.now }
 {
-    for coefficient in a.words {
-        add_scaled::<S>(acc, *coefficient, Poly::new(b));
-        times_x::<S>(b);
+    let n = S::degree();
+    let mut room = [0; 2 * MOST];
+    let unrolled = &mut room[..2 * n];
+    unroll(unrolled, b);
+    for (i, coefficient) in a.words.iter().enumerate() {
+        add_scaled::<S>(acc, *coefficient, Poly::new(&unrolled[n - i..2 * n - i]));
     }
 }
 
@@ -213,13 +202,9 @@ pub struct LongProduct;
 
 impl<S: ParamSet> Multiply<S> for LongProduct {
     fn multiply_words(out: &mut [u32], a: &[u32], b: &[u32]) {
-        let n = S::degree();
         let mut sums = [0; MOST];
-        let mut factor = [0; MOST];
-        let acc = &mut sums[0..n];
-        let b_shifted = &mut factor[0..n];
-        b_shifted.copy_from_slice(b);
-        accumulate::<S>(acc, Poly::new(a), b_shifted);
+        let acc = &mut sums[..S::degree()];
+        accumulate::<S>(acc, Poly::new(a), Poly::new(b));
         reduce::<S>(out, acc)
     }
 }

@@ -4,6 +4,7 @@ use Rattle.std.proofs.Common.{sym, ap, ◌∙◌, add_comm, add_assoc, add-zero,
 use Rattle.std.proofs.Math.Nat.{mod_self, mod-add-mod, add-mod-mod}
 use Rattle.std.proofs.lemmas.Nat.{xor_comm, xor_lt}
 use Rattle.std.specs.Int.Bits.{xor_assoc, xor_zero_r, xor_self}
+use Rattle.params.specs.Params.{Params, Sound}
 use Rattle.shares.specs.Rule.{Laws}
 use Rattle.shares.specs.Groups.{word_rule, residue_rule}
 
@@ -28,3 +29,7 @@ residue_laws p big = record {
   unit_in = omega arith;
   inverse_in = λ a _. mod-lt (p - a) (omega arith);
 }
+
+-- and so do the residues of every set's modulus
+pub set_laws : (s : Params) → Sound s → Laws (residue_rule s.p)
+set_laws s sound = residue_laws s.p (omega (arith, sound.alpha_below_k, sound.k_below_p))

@@ -11,13 +11,11 @@ pub mod conjunction;
 pub mod count;
 pub mod groups;
 pub mod opening;
-pub mod residues;
 
 pub use conjunction::sec_and;
 pub use count::ShareCount;
-pub use groups::Words;
+pub use groups::{Residues, Words};
 pub use opening::{open, recombine};
-pub use residues::Residues;
 use words::{Mark, Source};
 
 /// One value in `M` shares, each below the group's order.
@@ -43,41 +41,38 @@ macro_rules! at_share_count {
     };
 }
 
-/// A commutative group on the words below its order.
+/// A commutative group on the words below its order. It is a type with no values, so that a modulus is a constant in compiled code.
 pub trait Group {
-    ghost rule: { Self → Rule };
+    ghost rule: { Rule };
 
-    ghost laws: { (g : Self) → Laws (rule g) };
+    ghost laws: { Laws rule };
 
-    fn unit(&self) -> u32
-        ensures { result ≡ (rule self.now).unit };
+    fn unit() -> u32
+        ensures { result ≡ rule.unit };
 
-    fn join(&self, a: u32, b: u32) -> u32
-        requires { (a < (rule self.now).order) × (b < (rule self.now).order) }
-        ensures { result ≡ (rule self.now).op a b };
+    fn join(a: u32, b: u32) -> u32
+        requires { (a < rule.order) × (b < rule.order) }
+        ensures { result ≡ rule.op a b };
 
-    fn inverse(&self, a: u32) -> u32
-        requires { a < (rule self.now).order }
-        ensures { result ≡ (rule self.now).inverse a };
+    fn inverse(a: u32) -> u32
+        requires { a < rule.order }
+        ensures { result ≡ rule.inverse a };
 
     // An element made of the next words of a source.
-    fn mask<S: Source>(&self, src: &mut S) -> Result<u32, Mark>
-        ensures { Spends (rule self.now).cost result (S.flow src.old) (S.flow src.new) (Masks (rule self.now) (S.flow src.old).words) };
+    fn mask<S: Source>(src: &mut S) -> Result<u32, Mark>
+        ensures { Spends rule.cost result (S.flow src.old) (S.flow src.new) (Masks rule (S.flow src.old).words) };
 }
 
 /// The unit, and then masks in the places behind it.
-pub fn draw_masks<const M: usize, G: Group, S: Source>(
-    g: &G,
-    src: &mut S,
-) -> Result<Shares<M>, Mark>
+pub fn draw_masks<const M: usize, G: Group, S: Source>(src: &mut S) -> Result<Shares<M>, Mark>
     requires some { 0 < M }
-    ensures { Spends ((G.rule g.now).cost * (M - 1)) result (S.flow src.old) (S.flow src.new) (λ xs. (xs ≡ (G.rule g.now).unit ∷ masks (G.rule g.now) (M - 1) (S.flow src.old).words) × Within (G.rule g.now) xs) }
+    ensures { Spends (G.rule.cost * (M - 1)) result (S.flow src.old) (S.flow src.new) (λ xs. (xs ≡ G.rule.unit ∷ masks G.rule (M - 1) (S.flow src.old).words) × Within G.rule xs) }
 {
-    let mut shares = [g.unit(); M];
+    let mut shares = [G::unit(); M];
     // The first keeps the unit. Not by `skip(1)`, after which nothing is known of what was written.
     for (i, share) in shares.iter_mut().enumerate() {
         if 0 < i {
-            *share = g.mask(src)?;
+            *share = G::mask(src)?;
         }
     }
     Ok(shares)
@@ -85,7 +80,6 @@ pub fn draw_masks<const M: usize, G: Group, S: Source>(
 
 // Joins one mask to share i, and its inverse to share j.
 fn refresh_pair<const M: usize, G: Group, S: Source>(
-    g: &G,
     shares: &mut [u32; M],
     i: usize,
     j: usize,
@@ -93,13 +87,13 @@ fn refresh_pair<const M: usize, G: Group, S: Source>(
 ) -> Result<(), Mark>
     requires rising { i < j }
     requires inside { j < M }
-    requires within { Within (G.rule g.now) shares.old }
-    ensures { Pair (G.rule g.now) i j result shares.old shares.new (S.flow src.old) (S.flow src.new) }
+    requires within { Within G.rule shares.old }
+    ensures { Pair G.rule i j result shares.old shares.new (S.flow src.old) (S.flow src.new) }
 {
-    let mask = g.mask(src)?;
-    let a = g.join(shares[i], mask);
-    let inverse = g.inverse(mask);
-    let b = g.join(shares[j], inverse);
+    let mask = G::mask(src)?;
+    let a = G::join(shares[i], mask);
+    let inverse = G::inverse(mask);
+    let b = G::join(shares[j], inverse);
     shares[i] = a;
     shares[j] = b;
     Ok(())
@@ -107,17 +101,16 @@ fn refresh_pair<const M: usize, G: Group, S: Source>(
 
 /// New shares of the same value: a mask to each pair of shares, until the source ends.
 pub fn refresh<const M: usize, G: Group, S: Source>(
-    g: &G,
     shares: &mut [u32; M],
     src: &mut S,
 ) -> Result<(), Mark>
-    requires within { Within (G.rule g.now) shares.old }
-    ensures { Refreshed (G.rule g.now) M result shares.old shares.new (S.flow src.old) (S.flow src.new) }
+    requires within { Within G.rule shares.old }
+    ensures { Refreshed G.rule M result shares.old shares.new (S.flow src.old) (S.flow src.new) }
 {
     // Both shares of a pair are of one array, so the pairs go by index.
     for i in 0..M {
         for j in i + 1..M {
-            refresh_pair(g, shares, i, j, src)?;
+            refresh_pair::<M, G, S>(shares, i, j, src)?;
         }
     }
     Ok(())
@@ -125,14 +118,13 @@ pub fn refresh<const M: usize, G: Group, S: Source>(
 
 /// Refresh of shares that are passed by value; none come back where the source ends.
 pub fn fresh<const M: usize, G: Group, S: Source>(
-    g: &G,
     shares: Shares<M>,
     src: &mut S,
 ) -> Result<Shares<M>, Mark>
-    requires within { Within (G.rule g.now) shares }
-    ensures { Spends ((G.rule g.now).cost * pairs M) result (S.flow src.old) (S.flow src.new) (λ z. (z ≡ refreshed (G.rule g.now) (rows 0 M) (S.flow src.old).words shares.entry) × Within (G.rule g.now) z × (recombine (G.rule g.now) z ≡ recombine (G.rule g.now) shares.entry)) }
+    requires within { Within G.rule shares }
+    ensures { Spends (G.rule.cost * pairs M) result (S.flow src.old) (S.flow src.new) (λ z. (z ≡ refreshed G.rule (rows 0 M) (S.flow src.old).words shares.entry) × Within G.rule z × (recombine G.rule z ≡ recombine G.rule shares.entry)) }
 {
     let mut out = shares;
-    refresh(g, &mut out, src)?;
+    refresh::<M, G, S>(&mut out, src)?;
     Ok(out)
 }

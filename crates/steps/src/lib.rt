@@ -2,6 +2,7 @@
 #![tactic(auto)]
 
 ghost use Rattle.std.specs.Prelude.{◌≡◌, ◌+◌, ◌*◌, ◌%◌, ◌^◌, ◌<◌, take, bit_and};
+ghost use Rattle.params.specs.Params.{reach};
 ghost use Rattle.words.specs.Spending.{Spends};
 ghost use Rattle.shares.specs.Rule.{Within};
 ghost use Rattle.shares.specs.Groups.{residue_rule, word_of, residue_of};
@@ -11,6 +12,7 @@ ghost use Rattle.steps.specs.Candidate.{Judged, Tried};
 
 use gadgets::{Limit, sec_below, to_words};
 use linear::low_bits;
+use params::ParamSet;
 use shares::{Group, Residues, Shares, Words, fresh, open, sec_and};
 use words::{Mark, Source};
 
@@ -41,9 +43,9 @@ fn judge<const M: usize, S: Source>(
     requires small { word_of x < 2 ^ 31 }
     ensures { Spends (17 * pairs M) result (S.flow src.old) (S.flow src.new) (λ o. Judged limit.value (word_of x.entry) o) }
 {
-    let x = fresh(&Words, x, src)?;
+    let x = fresh::<M, Words, S>(x, src)?;
     let below = sec_below(x, limit, src)?;
-    let bit = open(&Words, below, src)?;
+    let bit = open::<M, Words, S>(below, src)?;
     Ok((bit == 1).then_some(x))
 }
 
@@ -62,22 +64,20 @@ pub fn candidate<const M: usize, N: Source, S: Source>(
     judge(low_bits(words, bits), limit, masks).map_err(Ended::Masks)
 }
 
-/// Shares of the pass bit `pass`, cleared unless the coefficient `z` lies within `reach` of 0.
-pub fn check_coefficient<const M: usize, S: Source>(
+/// Shares of the pass bit `pass`, cleared unless the coefficient `z` lies within the set's reach of 0.
+pub fn check_coefficient<const M: usize, P: ParamSet, S: Source>(
     z: Shares<M>,
     pass: Shares<M>,
-    reach: u32,
-    ring: Residues,
     src: &mut S,
 ) -> Result<Shares<M>, Mark>
     requires some { 0 < M }
-    requires within { Within (residue_rule ring.p) z }
-    requires near { 2 * reach + 1 < ring.p }
-    ensures { Spends ((33 * M + 16) * pairs M) result (S.flow src.old) (S.flow src.new) (λ q. word_of q ≡ bit_and (is_below ((residue_of ring.p z.entry + reach) % ring.p) (2 * reach + 1)) (word_of pass.entry)) }
+    requires within { Within (residue_rule P.params.p) z }
+    ensures { Spends ((33 * M + 16) * pairs M) result (S.flow src.old) (S.flow src.new) (λ q. word_of q ≡ bit_and (is_below ((residue_of P.params.p z.entry + reach P.params) % P.params.p) (2 * reach P.params + 1)) (word_of pass.entry)) }
 {
+    let reach = P::reach();
     let mut moved = z;
-    moved[0] = ring.join(z[0], reach);
-    let word = to_words(moved, ring, src)?;
+    moved[0] = Residues::<P>::join(z[0], reach);
+    let word = to_words::<M, P, S>(moved, src)?;
     let limit = Limit {
         value: 2 * reach + 1,
     };

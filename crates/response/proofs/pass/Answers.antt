@@ -8,14 +8,6 @@ use Rattle.response.proofs.pass.Goals as goal
 pub coefficients-init : goal.coefficients-init
 coefficients-init g c = passing-none g.S.ParamSet.params g.row.M c.args.z.area.now (g.W.Source.flow c.args.masks.now) c.public-pass.result (word_public g.row.M 1 c.args.z.some c.public-pass.ensures)
 
-pub check_coefficient-requires : goal.check_coefficient-requires
-check_coefficient-requires g c =
-    let s = g.S.ParamSet.params in
-    let p = c.of-ring.ensures in
-    let r = c.reach.ensures in
-    let h = g.S.ParamSet.sound.k_below_p in
-    (search rules, (c.args.z.some, (rw p c.coefficient.ensures.within, omega arith)))
-
 pub coefficients-preserved : goal.coefficients-preserved
 coefficients-preserved g c =
     let s = g.S.ParamSet.params in
@@ -24,8 +16,8 @@ coefficients-preserved g c =
     let n = c.coefficients-c-end.ensures in
     let below = value-below s g.row.M g.S.ParamSet.sound 2 c.coefficients.c z (omega arith) c.args.z.sized c.args.z.residues in
     let d = c.in_ok-pass.ensures.by in
-    passing-more s g.row.M z (g.W.Source.flow c.args.masks.now) c.coefficients.c c.coefficient.result c.coefficients.pass c.in_ok-pass.pass c.of-ring.result.p c.reach.result
-    c.of-ring.ensures c.reach.ensures c.coefficient.ensures.shares below (omega arith) d.0 d.1 c.coefficients.invariant
+    passing-more s g.row.M z (g.W.Source.flow c.args.masks.now) c.coefficients.c c.coefficient.result c.coefficients.pass c.in_ok-pass.pass
+    c.coefficient.ensures.shares below (omega arith) d.0 d.1 c.coefficients.invariant
 
 pub returns-in_err-pass : goal.returns-in_err-pass
 returns-in_err-pass g c =

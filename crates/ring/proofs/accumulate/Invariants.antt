@@ -1,8 +1,10 @@
 use Rattle.std.proofs.Common.{◌≡◌, ◌+◌, ◌*◌, ◌^◌, drop}
 use Rattle.ring.specs.Ring.{Residues, plus, product}
+use Rattle.ring.proofs.Loops.{Turned}
 use Rattle.ring.proofs.accumulate.Given as goal
 
-abbrev pub invariant-loop-coefficient : goal.invariant-loop-coefficient
-invariant-loop-coefficient g l =
+abbrev pub invariant-loop-i : goal.invariant-loop-i
+invariant-loop-i g l =
     let p = g.S.ParamSet.params.p in
-    (plus p l.acc (product p (drop l.coefficient-index l.a.words.now) l.b) ≡ product p l.a.words.now l.initial.b) × Residues p l.b × Residues (l.coefficient-index * 2 ^ 48 + 1) l.acc
+    let n = g.S.ParamSet.params.n in
+    (plus p l.acc (product p (drop l.i l.a.words.now) (Turned p n l.b.words.now l.i)) ≡ product p l.a.words.now l.b.words.now) × Residues (l.i * 2 ^ 48 + 1) l.acc

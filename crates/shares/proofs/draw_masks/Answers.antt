@@ -6,7 +6,7 @@ use Rattle.shares.proofs.draw_masks.Goals as goal
 use Rattle.shares.proofs.draw_masks.Goals.{then-i-gt0+in_ok-share, else-i-gt0}
 
 pub loop-i-init : goal.loop-i-init
-loop-i-init g c = drawing-none _ g.row.M c.unit-shares.result _ (g.G.Group.laws c.args.g.now) c.requires.some c.unit-shares.ensures
+loop-i-init g c = drawing-none _ g.row.M c.unit-shares.result _ g.G.Group.laws c.requires.some c.unit-shares.ensures
 
 pub loop-i-preserved : goal.loop-i-preserved
 loop-i-preserved g c =
@@ -16,7 +16,7 @@ loop-i-preserved g c =
           let d = w.in_ok-share.ensures.by in
           let here : i + (1 - i) ≡ i = omega arith in
           let next : i + 1 ≡ i + 1 + (1 - (i + 1)) = omega arith in
-          rw (w.src-is, w.share-items-is) (drawing-as _ next (drawing-more _ g.row.M i _ c.loop-i.share-items _ _ _ (g.G.Group.laws c.args.g.now) w.if-i-gt0.true c.loop-i-test.true d.0 d.1 (drawing-as _ here c.loop-i.invariant)))
+          rw (w.src-is, w.share-items-is) (drawing-as _ next (drawing-more _ g.row.M i _ c.loop-i.share-items _ _ _ g.G.Group.laws w.if-i-gt0.true c.loop-i-test.true d.0 d.1 (drawing-as _ here c.loop-i.invariant)))
       | else-i-gt0 w ↦
           let next : i + (1 - i) ≡ i + 1 + (1 - (i + 1)) = omega arith in
           rw (w.src-is, w.share-items-is, set-get_or c.loop-i.share-items i 0) (drawing-as _ next c.loop-i.invariant)

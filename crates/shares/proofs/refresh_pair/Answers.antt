@@ -6,8 +6,8 @@ use Rattle.shares.proofs.refresh_pair.Goals as goal
 
 pub returns : goal.returns
 returns g c =
-    let u = g.G.Group.rule c.args.g.now in
-    let laws = g.G.Group.laws c.args.g.now in
+    let u = g.G.Group.rule in
+    let laws = g.G.Group.laws in
     let xs = c.args.shares.now in
     let i = c.args.i in
     let j = c.args.j in

@@ -1,5 +1,6 @@
-use Rattle.std.proofs.Common.{◌≡◌, ℕ, ◌+◌, ◌*◌, ◌%◌, ◌<◌, List, length, get_or, set, ap, ◌∙◌, mul_assoc, mul_comm, add-mul, arith, rules}
+use Rattle.std.proofs.Common.{◌≡◌, ℕ, ◌+◌, ◌*◌, ◌%◌, ◌<◌, List, length, get_or, set, ap, ◌∙◌, ap₂, mul_assoc, mul_comm, add-mul, arith, rules}
 use lib.Bits.{bit_and}
+use Rattle.params.specs.Params.{reach}
 use Rattle.words.proofs.Spendings.{spent_then, spends_then, spends_as, spends_so}
 use Rattle.shares.specs.Groups.{residue_rule, word_of, residue_of}
 use Rattle.shares.specs.Lawful.{residue_laws}
@@ -17,12 +18,13 @@ moved p k zs v h l e = ap (λ (y : ℕ). residue_of p (set zs 0 y)) e ∙ recomb
 
 pub returns : goal.returns
 returns g c =
-    let p = c.args.ring.p in
-    let k = c.args.reach in
+    let p = g.P.ParamSet.params.p in
+    let k = reach g.P.ParamSet.params in
+    let sound = g.P.ParamSet.sound in
     let hz : length c.args.z ≡ g.row.M = search rules in
-    let e = c.in_ok-word.ensures.by.1 ∙ moved p k c.args.z _ c.args.ring.some (omega (arith, c.requires.some)) c.join.ensures in
+    let e = c.in_ok-word.ensures.by.1 ∙ moved p k c.args.z _ (omega arith) (omega (arith, c.requires.some)) (c.join.ensures ∙ ap (λ (v : ℕ). (get_or c.args.z 0 0 + v) % p) c.reach-reach.ensures) in
     let a = spent_then c.in_ok-word.ensures.by.0 c.in_ok-inside.ensures.by.0 in
     let t = cost g.row.M (pairs g.row.M) in
     let r = c.sec_and.result in
     spends_so r (spends_as r (spends_then r a c.sec_and.ensures) (omega arith))
-    (λ q h. h.1 ∙ ap (λ (v : ℕ). bit_and v (word_of c.args.pass)) (c.in_ok-inside.ensures.by.1 ∙ ap (λ (v : ℕ). is_below v (2 * k + 1)) e))
+    (λ q h. h.1 ∙ ap (λ (v : ℕ). bit_and v (word_of c.args.pass)) (c.in_ok-inside.ensures.by.1 ∙ ap₂ (λ (v r : ℕ). is_below v (2 * r + 1)) e c.reach-reach.ensures))

@@ -10,8 +10,8 @@ returns g c =
     record {
       by = (
         spent_as (spent_then (spent_then (spent_then (spent_then (spent_then c.in_ok-sum.ensures.by.0 c.in_ok-less.ensures.by.0) c.in_ok-keep.ensures.by.0) c.in_ok-kept.ensures.by.0) c.in_ok-drop.ensures.by.0) c.in_ok-reduced.ensures.by.0) (omega arith),
-        sum_modp c.args.ring.p _ _ _ _ _ _ _ _ _ _ c.args.ring.small c.requires.first c.requires.second
-            c.in_ok-sum.ensures.by.1 (word_public g.row.M _ c.requires.some c.public.ensures ∙ c.negated.ensures) c.in_ok-less.ensures.by.1
+        sum_modp g.P.ParamSet.params.p _ _ _ _ _ _ _ _ _ _ g.P.ParamSet.sound.p_small c.requires.first c.requires.second
+            c.in_ok-sum.ensures.by.1 (word_public g.row.M _ c.requires.some c.public.ensures ∙ c.negated.ensures ∙ ap (λ (v : ℕ). 2 ^ 32 - v) c.modulus.ensures) c.in_ok-less.ensures.by.1
             (c.in_ok-keep.ensures.by.1.2 ∙ c.spread_top_bit-negative.ensures.word)
             c.in_ok-kept.ensures.by.1.1
             (c.not.ensures.word ∙ ap (λ (v : ℕ). bit_xor v (2 ^ 32 - 1)) (c.in_ok-drop.ensures.by.1.2 ∙ c.spread_top_bit-negative.ensures.word))
