@@ -21,19 +21,29 @@ impl Squeezer {
         byte
     }
 
-    // The next N bytes, from their lane at once where they stand in one: byte by byte takes a sixth longer.
+    // The next N bytes, one by one: they stand in two lanes.
+    #[cold]
+    fn bytes_apart<const N: usize>(&mut self) -> [u8; N]
+        ensures { (m : List ℕ) (i : ℕ) → Reading m i self.old → (result ≡ map (shake_byte m) (range_with_len i N)) × Reading m (i + N) self.new }
+    {
+        let mut bytes = [0; N];
+        self.squeeze(&mut bytes);
+        bytes
+    }
+
+    // The next N bytes, from their lane at once where they stand in one.
     fn next_bytes<const N: usize>(&mut self) -> [u8; N]
         requires { N ≤ 8 }
         ensures { (m : List ℕ) (i : ℕ) → Reading m i self.old → (result ≡ map (shake_byte m) (range_with_len i N)) × Reading m (i + N) self.new }
     {
-        let mut bytes = [0; N];
-        if self.sponge.pos % 8 + N <= 8 {
-            bytes.copy_from_slice(&self.rest_of_lane().to_le_bytes()[..N]);
-            self.sponge.advance(N);
-        } else {
-            self.squeeze(&mut bytes);
+        match self.rest_of_lane().to_le_bytes().first_chunk::<N>() {
+            Some(bytes) if self.sponge.pos % 8 + N <= 8 => {
+                let bytes = *bytes;
+                self.sponge.advance(N);
+                bytes
+            }
+            _ => self.bytes_apart(),
         }
-        bytes
     }
 
     // The next two bytes, the low one first.

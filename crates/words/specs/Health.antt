@@ -51,10 +51,10 @@ checked c l r (w ∷ ws) m o =
 abbrev pub health_flow : Watch → Flow → Flow
 health_flow h f = cond h.failed (withheld f.origin) (checked h.cutoff h.last h.run f.words f.mark f.origin)
 
--- what the check notes of a word that it lets through, and of one that it withholds
+-- what the check notes of a word that it lets through; of one that it withholds, no more than that it did
 abbrev pub Admits : Bool → ℕ → Watch → Watch → Type 0
 Admits true w h h' = (run_with h.last h.run w < h.cutoff) × (h'.cutoff ≡ h.cutoff) × (h'.last ≡ w) × (h'.run ≡ run_with h.last h.run w) × (h'.failed ≡ h.failed)
-Admits false w h h' = (h.cutoff ≤ run_with h.last h.run w) × (h'.failed ≡ true)
+Admits false w h h' = (h.cutoff ≤ run_with h.last h.run w) × (h'.cutoff ≡ h.cutoff) × (h'.last ≡ h.last) × (h'.run ≡ h.run) × (h'.failed ≡ true)
 
 -- a check lets no more through than there is
 checked_few : (c l r : ℕ) (ws : List ℕ) (m : Mark) (o : List (ℕ × ℕ)) → length (checked c l r ws m o).words ≤ length ws

@@ -44,6 +44,7 @@ impl<B: AsSlice<u32>> Source for Tape<B> {
 
     ghost few = { λ t. tape_few (B.items t.words) t.at t.few };
 
+    #[inline]
     fn draw(&mut self) -> Result<u32, Mark> {
         let word = *self.words.as_slice().get(self.at).ok_or(Mark::Spent)?;
         self.at += 1;

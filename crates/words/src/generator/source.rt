@@ -31,6 +31,7 @@ impl Source for Generator {
 
     ghost few = { generator_few };
 
+    #[inline]
     fn draw(&mut self) -> Result<u32, Mark> {
         if self.at == self.count {
             return Err(Mark::Spent);
