@@ -26,17 +26,15 @@ pub fn centred<const N: usize, S: Set<N>>(v: u32) -> i32 {
     }
 }
 
-/// The long product over a rotating factor: sums of 64 bits, and one remainder a coefficient.
+/// The long product. The N words of −b and then b from place N − i on are xⁱ·b; sums of 64 bits, and one remainder a coefficient.
 pub fn multiply<const N: usize, S: Set<N>>(out: &mut [u32; N], a: &[u32; N], b: &[u32; N]) {
+    let unrolled = [b.map(|x| if x == 0 { 0 } else { S::P - x }), *b];
+    let unrolled = unrolled.as_flattened();
     let mut sums = [0u64; N];
-    let mut factor = *b;
-    for &k in a {
-        for (sum, &x) in sums.iter_mut().zip(&factor) {
+    for (i, &k) in a.iter().enumerate() {
+        for (sum, &x) in sums.iter_mut().zip(&unrolled[N - i..2 * N - i]) {
             *sum += u64::from(k) * u64::from(x);
         }
-        let top = factor[N - 1];
-        factor.copy_within(0..N - 1, 1);
-        factor[0] = if top == 0 { 0 } else { S::P - top };
     }
     for (x, sum) in out.iter_mut().zip(sums) {
         *x = (sum % u64::from(S::P)) as u32;
