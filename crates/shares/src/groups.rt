@@ -56,6 +56,7 @@ impl<P: ParamSet> Group for Residues<P> {
         if a == 0 { 0 } else { P::modulus() - a }
     }
 
+    #[inline]
     fn mask<S: Source>(src: &mut S) -> Result<u32, Mark> {
         let high = src.draw()?;
         let low = src.draw()?;

@@ -33,6 +33,7 @@ impl<'a, S: Source> Source for Metered<'a, S> {
 
     ghost few = { λ m. S.Source.few m.src.now };
 
+    #[inline]
     fn draw(&mut self) -> Result<u32, Mark> {
         let word = self.src.draw()?;
         // Cannot wrap where the count began at 0, since no source has so many words.
