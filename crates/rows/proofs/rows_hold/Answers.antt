@@ -3,7 +3,8 @@ use Rattle.keccak.specs.Keccak.{iota, round, rounds, keccak_f}
 use Rattle.shake.specs.Sponge.{byte_of, xor_byte, xor_bytes, blocks, padding, padded, absorbed, later, shake_byte, shake_word}
 use Rattle.challenge.specs.Challenge.{challenge, filled, stream}
 use Rattle.plain.specs.Costs.{cost}
-use Rattle.plain.specs.Nonces.{bits, bits_from, candidate, coefficient, whole}
+use Rattle.plain.specs.Nonces.{bits, bits_from, candidate, coefficient, cut_short, whole}
+use Rattle.plain.specs.Run.{charge, choose, closed, consider, finish, sign}
 use Rattle.shares.specs.Refresh.{pairs}
 use Rattle.rows.proofs.rows_hold.Goals as goal
 
@@ -43,4 +44,20 @@ returns-clause-payment c = record {
   reach_then_code = refl;
   code_then_challenge = refl;
   challenge_then_counter = refl;
+}
+
+pub returns-clause-signing : goal.returns-clause-signing
+unfolding iota round rounds keccak_f byte_of xor_byte xor_bytes blocks padding padded absorbed later shake_byte shake_word challenge filled stream bits bits_from candidate coefficient cost pairs whole cut_short closed choose charge consider finish sign
+returns-clause-signing c = record {
+  passes_second = refl;
+  written = refl;
+  no_further_try = refl;
+  nonces_cut = refl;
+  short_of_candidate = (refl, refl);
+  short_of_conversion = (refl, refl);
+  short_of_next = (refl, refl);
+  short_of_commit = (refl, refl);
+  short_of_check = (refl, refl);
+  short_of_second = (refl, refl);
+  short_of_open = (refl, refl);
 }
