@@ -3,7 +3,7 @@
 -- words, and where the masks end before each step.
 use Rattle.std.specs.Prelude.{◌≡◌, ℕ, ◌*◌, List, [], ◌∷◌, ◌++◌, take, pos, negsuc, replicate}
 use Rattle.params.specs.Params.{set_s}
-use Rattle.plain.specs.Run.{Key, Outcome, signed, nonces_ended, masks_ended, all_failed, Fate, passed, rejected, unfinished, Attempt, Run, counts_of, sign}
+use Rattle.plain.specs.Run.{Key, Outcome, signed, nonces_ended, masks_ended, all_failed, passed, rejected, unfinished, Attempt, Run, counts_of, sign}
 use Rattle.record.specs.Layout.{Content, encode}
 use Rattle.refusal.specs.declared.fault.Counts.{Counts}
 use Rattle.refusal.specs.declared.fault.Step.{Step}
