@@ -4,5 +4,6 @@
 use std::io;
 
 fn main(rt: HostRuntime) -> io::Result<()> {
-    runner::run(&rt)
+    runner::run(rt.alloc(), rt.stdin(), rt.stdout())?;
+    Ok(())
 }

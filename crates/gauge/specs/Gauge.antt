@@ -68,13 +68,13 @@ Columns u m g xs ys zs = (c : ℕ) → c < 512 → Gives u m g (shares_of 512 m 
 abbrev pub Sized : ℕ → List ℕ → List ℕ → List ℕ → Type 0
 Sized m zs xs ys = (length zs ≡ 512 * m) × (length xs ≡ 512 * m) × (length ys ≡ 512 * m)
 
--- what a call leaves in the area zs' with so many mask words, or why it is refused
+-- what a call leaves in the area zs' with so many mask words, or why it is refused: it leaves the area as it was, unless masks end on the way
 abbrev pub GaugedBy : {A : Type 0} → Params → ℕ → ℕ → List ℕ → List ℕ → List ℕ → List ℕ → ℕ → Result A Refusal → Type 0
-GaugedBy u number m xs ys zs zs' words (Ok _) = (g : Gadget) × (number_of g ≡ number) × (512 * cost g m ≤ words) × Columns u m g xs ys zs'
-GaugedBy u number m xs ys zs zs' words (Err Kind) = 10 ≤ number
-GaugedBy u number m xs ys zs zs' words (Err ShareCount) = (m ≡ 0) ⊎ (8 < m)
-GaugedBy u number m xs ys zs zs' words (Err AreaSize) = Sized m zs xs ys → ⊥
-GaugedBy u number m xs ys zs zs' words (Err SourceRange) = 2 ^ 40 < words
+GaugedBy u number m xs ys zs zs' words (Ok _) = (g : Gadget) × (number_of g ≡ number) × Sized m zs xs ys × (512 * cost g m ≤ words) × Columns u m g xs ys zs'
+GaugedBy u number m xs ys zs zs' words (Err Kind) = (10 ≤ number) × (zs' ≡ zs)
+GaugedBy u number m xs ys zs zs' words (Err ShareCount) = ((m ≡ 0) ⊎ (8 < m)) × (zs' ≡ zs)
+GaugedBy u number m xs ys zs zs' words (Err AreaSize) = (Sized m zs xs ys → ⊥) × (zs' ≡ zs)
+GaugedBy u number m xs ys zs zs' words (Err SourceRange) = (2 ^ 40 < words) × (zs' ≡ zs)
 GaugedBy u number m xs ys zs zs' words (Err (MasksEnded mark)) = (g : Gadget) × (number_of g ≡ number) × (words < 512 * cost g m)
 GaugedBy u number m xs ys zs zs' words (Err _) = ⊥
 

@@ -1,5 +1,6 @@
-// Products and sums of polynomials in shares, row by row: no two shares of one value meet.
-ghost use Rattle.std.specs.Prelude.{◌≡◌, ◌*◌, ◌<◌, ◌++◌, length, take, drop};
+// Products and sums of polynomials in shares, row by row: no two shares of one value meet. The clauses `rows` say so, and the clauses
+// `value` what it comes to.
+ghost use Rattle.std.specs.Prelude.{◌≡◌, ℕ, ◌+◌, ◌*◌, ◌<◌, ◌++◌, length, take, drop};
 ghost use Rattle.polys.specs.Area.{recombined, row, values};
 ghost use Rattle.ring.specs.Ring.{Residues, plus, product};
 
@@ -41,6 +42,7 @@ pub fn commit_rows<const M: usize, S: ParamSet, P: Multiply<S>>(
 )
     requires r { length r.old ≡ M * S.params.n }
     ensures value { values S.params M S.params.n r.new ≡ plus S.params.p (product S.params.p a.entry.words.now (take S.params.n (recombined S.params M y.entry.area.now))) (drop S.params.n (recombined S.params M y.entry.area.now)) }
+    ensures rows { (k : ℕ) → k < M → row S.params.n k r.new ≡ plus S.params.p (product S.params.p a.entry.words.now (row S.params.n k y.entry.area.now)) (row S.params.n (M + k) y.entry.area.now) }
     ensures residues { Residues S.params.p r.new }
 {
     let n = S::degree();
@@ -59,6 +61,7 @@ pub fn respond_rows<const M: usize, S: ParamSet, P: Multiply<S>>(
 )
     requires z { length z.old ≡ 2 * M * S.params.n }
     ensures value { recombined S.params M z.new ≡ plus S.params.p (product S.params.p (take S.params.n (recombined S.params M key.entry.area.now)) c.entry.words.now) (take S.params.n (recombined S.params M y.entry.area.now)) ++ plus S.params.p (product S.params.p (drop S.params.n (recombined S.params M key.entry.area.now)) c.entry.words.now) (drop S.params.n (recombined S.params M y.entry.area.now)) }
+    ensures rows { (k : ℕ) → k < 2 * M → row S.params.n k z.new ≡ plus S.params.p (product S.params.p (row S.params.n k key.entry.area.now) c.entry.words.now) (row S.params.n k y.entry.area.now) }
     ensures residues { Residues S.params.p z.new }
 {
     let n = S::degree();

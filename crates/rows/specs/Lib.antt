@@ -1,2 +1,3 @@
 pub mod Payment
+pub mod Signing
 pub mod Table

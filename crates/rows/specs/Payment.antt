@@ -5,8 +5,8 @@ use Rattle.params.specs.Params.{set_s}
 use Rattle.record.specs.Layout.{Content, encode}
 use Rattle.refusal.specs.declared.Area.TheVariants.{Public}
 use Rattle.refusal.specs.declared.Refusal.{Refusal}
-use Rattle.refusal.specs.declared.Refusal.TheVariants.{NotResidue, RecordSize, Kind, OutOfReach, UnusedCode, OtherChallenge, Stale}
-use Rattle.till.specs.Verdict.{verdict}
+use Rattle.refusal.specs.declared.Refusal.TheVariants.{AreaSize, NotResidue, RecordSize, Kind, OutOfReach, UnusedCode, OtherChallenge, Stale}
+use Rattle.till.specs.Verdict.{last_after, verdict}
 use Rattle.till.specs.declared.payment.Payment.{Payment as Paid}
 
 -- a and t
@@ -54,7 +54,11 @@ pub record Payment : Type 0 where
   pub written : encode set_s content ≡ bytes
   pub accepted : answer None bytes ≡ Ok (record { counter = 1; digest = digest })
   pub again : answer (Some 1) bytes ≡ Err Stale
+  -- the last counter that the till then holds
+  pub moves : last_after None (answer None bytes) ≡ Some 1
+  pub stays : last_after (Some 1) (answer (Some 1) bytes) ≡ Some 1
   -- the tests in their order: of two that hit, the first is told
+  pub key_size_then_word : verdict set_s (key ++ (97 ∷ [])) None bytes ≡ Err AreaSize
   pub key_first : verdict set_s (drop 1 key ++ (97 ∷ [])) None [] ≡ Err (NotResidue Public 7)
   pub size_then_kind : answer None (other_kind bytes ++ (0x00 ∷ [])) ≡ Err RecordSize
   pub kind_then_reach : answer None (other_kind (far bytes)) ≡ Err Kind

@@ -1,16 +1,23 @@
 -- The worked examples, on a card of the small set: n = 4 and p = 97. Each row is a fact about the definitions.
-use Rattle.std.specs.Prelude.{List, [], ◌∷◌, map, ◌≡◌, true, false, ℕ, ◌+◌, ◌%◌, ℤ, pos, negsuc, replicate}
-use Rattle.params.specs.Params.{set_s}
+use Rattle.std.specs.Prelude.{List, [], ◌∷◌, map, length, ◌≡◌, true, false, ℕ, ◌+◌, ◌%◌, ℤ, pos, negsuc, Some, None, replicate}
+use Rattle.challenge.specs.Challenge.{filled, stream}
+use Rattle.params.specs.Params.{reach, set_i, set_s}
 use Rattle.plain.specs.Costs.{cost}
-use Rattle.plain.specs.Nonces.{candidates, nonces}
+use Rattle.plain.specs.Nonces.{bits, candidates, nonces}
 use Rattle.plain.specs.Run.{at}
-use Rattle.record.specs.Layout.{code_of, packed}
+use Rattle.record.specs.Layout.{code_of, kind, packed, size}
 use Rattle.record.specs.Reading.{all_near}
 use Rattle.refusal.specs.declared.fault.Step.TheVariants.{Candidate, Conversion, Commit, Check, Open}
 use Rattle.ring.specs.Ring.{centre, plus, product}
+use Rattle.shake.specs.Sponge.{shake256, shake_word32}
+use Rattle.shares.specs.Conjoined.{conjoined}
 use Rattle.shares.specs.Groups.{residue_rule, word_of, word_rule}
 use Rattle.shares.specs.Refresh.{refreshed, rows}
+use Rattle.till.specs.Verdict.{above}
+use Rattle.words.specs.Flow.{Flow}
 use Rattle.words.specs.Generators.{stretched}
+use Rattle.words.specs.Health.{checked}
+use Rattle.words.specs.declared.Mark.TheVariants.{Spent, Unhealthy}
 
 abbrev p : ℕ
 p = set_s.p
@@ -22,6 +29,10 @@ answer y1 = map (centre p) (plus p (product p (1 ∷ 0 ∷ 96 ∷ 0 ∷ []) (1 �
 -- the mask words of the steps that draw any, at m shares
 abbrev costs : ℕ → List ℕ
 costs m = cost set_s m (Candidate (at set_s 0)) ∷ cost set_s m (Conversion (at set_s 0)) ∷ cost set_s m Commit ∷ cost set_s m Check ∷ cost set_s m Open ∷ []
+
+-- what a health check with cutoff 3 lets through of a list, and the mark behind that
+abbrev healthy : List ℕ → Flow
+healthy ws = checked 3 0 0 ws Spent []
 
 pub record Table : Type 0 where
   -- x³ · x = −1
@@ -55,3 +66,34 @@ pub record Table : Type 0 where
   -- candidate, conversion, commit, check and opening at two shares, and at one
   pub costs_of_two : costs 2 ≡ 17 ∷ 101 ∷ 8 ∷ 657 ∷ 16 ∷ []
   pub costs_of_one : costs 1 ≡ 0 ∷ 0 ∷ 0 ∷ 0 ∷ 0 ∷ []
+  -- and at three and eight
+  pub costs_of_three : costs 3 ≡ 51 ∷ 400 ∷ 24 ∷ 2763 ∷ 48 ∷ []
+  pub costs_of_eight : costs 8 ≡ 476 ∷ 8330 ∷ 224 ∷ 62748 ∷ 448 ∷ []
+  -- three shares: the masks 10, 20 and 30 go to the pairs (0, 1), (0, 2) and (1, 2)
+  pub three_refreshed : refreshed (residue_rule p) (rows 0 3) (0 ∷ 10 ∷ 0 ∷ 20 ∷ 0 ∷ 30 ∷ []) (1 ∷ 2 ∷ 3 ∷ []) ≡ 31 ∷ 22 ∷ 50 ∷ []
+  -- SecAnd of two shares with the word FF, and of three with the words 100, 200 and 400
+  pub two_conjoined : conjoined 2 (0x0F ∷ 0x33 ∷ []) (0x55 ∷ 0xF0 ∷ []) (0xFF ∷ []) ≡ 0xFA ∷ 0xDE ∷ []
+  pub three_conjoined : conjoined 3 (0x0F ∷ 0x33 ∷ 0x5A ∷ []) (0x55 ∷ 0xF0 ∷ 0x3F ∷ []) (0x100 ∷ 0x200 ∷ 0x400 ∷ []) ≡ 0x305 ∷ 0x521 ∷ 0x626 ∷ []
+  -- SHAKE256 of 200 bytes A3, of the standard's examples: the first bytes, and a word behind the first block; and of messages that leave a
+  -- block one byte short and that fill it
+  pub hash_of_two_blocks : shake256 (replicate 200 0xA3) 8 ≡ 0xCD ∷ 0x8A ∷ 0x92 ∷ 0x0E ∷ 0xD1 ∷ 0x41 ∷ 0xAA ∷ 0x04 ∷ []
+  pub hash_goes_on : shake_word32 (replicate 200 0xA3) 136 ≡ 0x5AB82B51
+  pub hash_one_short : shake_word32 (replicate 135 0) 0 ≡ 0x70096C4A
+  pub hash_of_full_block : shake_word32 (replicate 136 0) 0 ≡ 0x837B94EA
+  -- a challenge from the words 5, 8001 and 8002: the second tells a position that is taken. And where the words end too soon
+  pub taken_skipped : filled set_s 2 (5 ∷ 0x8001 ∷ 0x8002 ∷ []) (0 ∷ 0 ∷ 0 ∷ 0 ∷ []) ≡ 0 ∷ 1 ∷ 96 ∷ 0 ∷ []
+  pub words_end : filled set_s 2 (5 ∷ 9 ∷ []) (0 ∷ 0 ∷ 0 ∷ 0 ∷ []) ≡ 0 ∷ 1 ∷ 0 ∷ 0 ∷ []
+  pub words_read : length (stream []) ≡ 512
+  -- a health check with cutoff 3
+  pub third_withheld : healthy (7 ∷ 7 ∷ 7 ∷ []) ≡ record { words = 7 ∷ 7 ∷ []; mark = Unhealthy; origin = [] }
+  pub run_broken : healthy (7 ∷ 7 ∷ 8 ∷ 7 ∷ 7 ∷ []) ≡ record { words = 7 ∷ 7 ∷ 8 ∷ 7 ∷ 7 ∷ []; mark = Spent; origin = [] }
+  pub zeros_at_first : healthy (0 ∷ 0 ∷ 0 ∷ []) ≡ record { words = 0 ∷ 0 ∷ []; mark = Unhealthy; origin = [] }
+  -- a till whose last counter is 5 takes 6 and 9 and not 5, and after 9 not 7; one with no last counter takes 0
+  pub same_counter : above (Some 5) 5 ≡ false
+  pub next_counter : above (Some 5) 6 ≡ true
+  pub later_counter : above (Some 6) 9 ≡ true
+  pub earlier_counter : above (Some 9) 7 ≡ false
+  pub first_counter : above None 0 ≡ true
+  -- the numbers that both sets come to: reach, bits of a candidate, a record's bytes and its kind
+  pub of_small : (reach set_s ≡ 8) × (bits set_s ≡ 5) × (size set_s ≡ 57) × (kind set_s ≡ 0x4700)
+  pub of_field : (reach set_i ≡ 16352) × (bits set_i ≡ 16) × (size set_i ≡ 2216) × (kind set_i ≡ 0x4701)

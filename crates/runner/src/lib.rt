@@ -1,7 +1,7 @@
 // A scenario from standard input, carried out line by line, and what its lines come to on standard output.
 #![tactic(auto)]
 
-ghost use Rattle.std.specs.Prelude.{ℕ, IfSome, OnOk, take};
+ghost use Rattle.std.specs.Prelude.{ℕ, IfOk, IfSome, OnOk, take};
 ghost use Rattle.std.specs.Io.KnownBytes.{Appends};
 ghost use Rattle.runner.specs.Transcript.{Begun, Transcribed};
 
@@ -10,7 +10,7 @@ mod line;
 use line::told_line;
 use std::alloc::Global;
 use std::io;
-use std::io::{BufRead, BufReader, BufWriter, ErrorKind, Write};
+use std::io::{BufRead, BufReader, BufWriter, ErrorKind, Read, Write};
 
 // Writes a text to its end. By `write`, since of a `write_all` that fails a proof knows nothing.
 fn put<W: Write>(out: &mut W, text: &[u8]) -> io::Result<()>
@@ -46,18 +46,13 @@ pub fn carry_all<R: BufRead + Drop, W: Write>(heap: Global, input: R, out: &mut 
     out.flush()
 }
 
-fn carry_out_stdin(rt: &HostRuntime) -> io::Result<()> {
-    let heap = rt.alloc();
-    let input = BufReader::new(heap, rt.stdin())?;
-    let mut out = BufWriter::new(heap, rt.stdout())?;
-    carry_all(heap, input, &mut out)
-}
-
-// The whole of a program: why it stopped before its end is told on standard error.
-pub fn run(rt: &HostRuntime) -> io::Result<()> {
-    let result = carry_out_stdin(rt);
-    if let Err(e) = &result {
-        eprintln!(rt; "scenario: {e}")?;
-    }
-    result
+/// The whole of a program, from its input to its output, each through a buffer: once it comes to its end, all that the lines come to
+/// is in the output, and nothing is left in a buffer.
+pub fn run<R: Read + Drop, W: Write + Drop>(heap: Global, input: R, output: W) -> io::Result<W>
+    ensures { IfOk result (λ written. IfSome (R.remaining input) (λ bytes. Transcribed bytes (W.contents output) (W.contents written))) }
+{
+    let input = BufReader::new(heap, input)?;
+    let mut out = BufWriter::new(heap, output)?;
+    carry_all(heap, input, &mut out)?;
+    Ok(out.into_inner()?)
 }

@@ -26,5 +26,6 @@ returns g c =
     let done : Written s.n (commit_row s g.row.M a y) g.row.M c.shares.r = λ k l. c.shares.invariant k (omega arith) in
     record {
       value = commit_value s g.row.M a y c.shares.r long c.args.y.sized done;
+      rows = done;
       residues = sums_residues s.n s.p g.row.M (λ (k : ℕ). product s.p a (row s.n k y)) (λ (k : ℕ). row s.n (g.row.M + k) y) c.shares.r (omega arith) some long done;
     }

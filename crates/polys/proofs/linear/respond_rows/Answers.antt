@@ -27,5 +27,6 @@ returns g c =
     let done : Written s.n (respond_row s key factor y) (2 * g.row.M) c.rows.z = λ k l. c.rows.invariant k (omega arith) in
     record {
       value = respond_value s g.row.M key y factor c.rows.z some c.args.key.sized c.args.y.sized long c.args.c.proper done;
+      rows = done;
       residues = sums_residues s.n s.p (2 * g.row.M) (λ (k : ℕ). product s.p (row s.n k key) factor) (λ (k : ℕ). row s.n k y) c.rows.z (omega arith) some long done;
     }
