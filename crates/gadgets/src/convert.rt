@@ -4,6 +4,7 @@ ghost use Rattle.words.specs.Spending.{Spends};
 ghost use Rattle.shares.specs.Rule.{Within};
 ghost use Rattle.shares.specs.Groups.{residue_rule, word_of, residue_of};
 ghost use Rattle.shares.specs.Refresh.{pairs};
+ghost use Rattle.gadgets.specs.Masked.{Masked};
 
 use crate::modular::sec_add_modp;
 use linear::{each, public};
@@ -36,7 +37,7 @@ pub fn to_residues<const M: usize, S: Source>(
 ) -> Result<Shares<M>, Mark>
     requires some { 0 < M }
     requires below { word_of x < ring.p }
-    ensures { Spends ((residue_rule ring.p).cost * (M - 1) + (M + 1) * (33 * pairs M)) result (S.flow src.old) (S.flow src.new) (λ z. Within (residue_rule ring.p) z × (residue_of ring.p z ≡ word_of x.entry)) }
+    ensures { Spends ((residue_rule ring.p).cost * (M - 1) + (M + 1) * (33 * pairs M)) result (S.flow src.old) (S.flow src.new) (λ z. Within (residue_rule ring.p) z × (residue_of ring.p z ≡ word_of x.entry) × Masked ring.p M (S.flow src.old).words z) }
 {
     let mut out = draw_masks(&ring, src)?;
     let negatives = each(out, |share| ring.inverse(share));

@@ -1,9 +1,11 @@
 use Rattle.std.proofs.Common.{◌≡◌, ℕ, ◌+◌, ◌-◌, ◌%◌, ◌<◌, List, length, get_or, set, sym, ap, ◌∙◌, subst, arith, rules}
 use native.Mathlib.Nat.{add-mod-mod}
+use Rattle.std.proofs.lemmas.List.{drop-set-lt}
 use Rattle.shares.specs.Rule.{Within}
 use Rattle.shares.specs.Groups.{residue_rule, residue_of, word_of}
 use Rattle.shares.specs.Lawful.{residue_laws}
 use Rattle.shares.proofs.Pairs.{recombine-joined, set-within}
+use Rattle.gadgets.specs.Masked.{Masked}
 use Rattle.plain.specs.Nonces.{coefficient}
 use Rattle.drawing.proofs.convert.Goals as goal
 
@@ -34,4 +36,4 @@ returns g c =
     let room = sound.k_below_p in
     let q = c.of-ring.result.p in
     let v = less-k q c.nonce_bound.result (word_of c.args.x) y c.join.result c.of-ring.result.some (omega arith) (omega arith) d.1.0 d.1.1 (c.join.ensures ∙ ap (λ (t : ℕ). (get_or y 0 0 + t) % q) c.inverse-less.ensures) in
-    record { by = (d.0, (subst (λ (p : ℕ). Within (residue_rule p) (set y 0 c.join.result)) ring v.0, subst (λ (p : ℕ). residue_of p (set y 0 c.join.result) ≡ (word_of c.args.x + (p - s.k)) % p) ring (v.1 ∙ ap (λ (t : ℕ). (word_of c.args.x + (q - t)) % q) k))) }
+    record { by = (d.0, (subst (λ (p : ℕ). Within (residue_rule p) (set y 0 c.join.result)) ring v.0, subst (λ (p : ℕ). residue_of p (set y 0 c.join.result) ≡ (word_of c.args.x + (p - s.k)) % p) ring (v.1 ∙ ap (λ (t : ℕ). (word_of c.args.x + (q - t)) % q) k), subst (λ (p : ℕ). Masked p g.row.M (g.W.Source.flow c.args.masks.now).words (set y 0 c.join.result)) ring (drop-set-lt 1 y 0 c.join.result (omega arith) ∙ d.1.2))) }
