@@ -6,6 +6,7 @@ ghost use Rattle.words.specs.Spending.{Spends};
 ghost use Rattle.shares.specs.Rule.{Within};
 ghost use Rattle.shares.specs.Groups.{residue_rule, residue_of, word_of};
 ghost use Rattle.shares.specs.Refresh.{pairs};
+ghost use Rattle.gadgets.specs.Masked.{Masked};
 ghost use Rattle.polys.specs.Area.{recombined};
 ghost use Rattle.ring.specs.Ring.{Residues};
 ghost use Rattle.plain.specs.Costs.{mask_words};
@@ -63,7 +64,7 @@ fn convert<const M: usize, S: ParamSet, W: Source>(
 ) -> Result<Shares<M>, Mark>
     requires some { 0 < M }
     requires below { word_of x < limit S.params }
-    ensures { Spends (mask_words S.params * (M - 1) + (M + 1) * (33 * pairs M)) result (W.flow masks.old) (W.flow masks.new) (λ y. Within (residue_rule S.params.p) y × (residue_of S.params.p y ≡ coefficient S.params (word_of x.entry))) }
+    ensures { Spends (mask_words S.params * (M - 1) + (M + 1) * (33 * pairs M)) result (W.flow masks.old) (W.flow masks.new) (λ y. Within (residue_rule S.params.p) y × (residue_of S.params.p y ≡ coefficient S.params (word_of x.entry)) × Masked S.params.p M (W.flow masks.old).words y) }
 {
     let mut y = to_residues::<M, S, W>(x, masks)?;
     let less = ResidueGroup::<S>::inverse(S::nonce_bound());

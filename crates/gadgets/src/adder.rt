@@ -3,6 +3,7 @@ ghost use Rattle.std.specs.Prelude.{◌≡◌, ◌+◌, ◌*◌, ◌%◌, ◌^�
 ghost use Rattle.words.specs.Spending.{Spends};
 ghost use Rattle.shares.specs.Groups.{word_of};
 ghost use Rattle.shares.specs.Refresh.{pairs};
+ghost use Rattle.gadgets.specs.Masked.{runs};
 ghost use Rattle.gadgets.specs.Words.{generated, propagated, is_below};
 
 use crate::limit::Limit;
@@ -18,7 +19,7 @@ fn widen<const M: usize, S: Source>(
     src: &mut S,
 ) -> Result<(Shares<M>, Shares<M>), Mark>
     requires small { places < 32 }
-    ensures { Spends (3 * pairs M) result (S.flow src.old) (S.flow src.new) (λ z. (word_of z.0 ≡ generated places (word_of g.entry) (word_of p.entry)) × (word_of z.1 ≡ propagated places (word_of p.entry))) }
+    ensures { Spends (3 * pairs M) result (S.flow src.old) (S.flow src.new) (λ z. (word_of z.0 ≡ generated places (word_of g.entry) (word_of p.entry)) × (word_of z.1 ≡ propagated places (word_of p.entry)) × (z.1 ≡ runs M places p.entry (S.flow src.old).words)) }
 {
     let carried = sec_and(shift_left(g, places), p, src)?;
     // Both operands of the next sec_and come from p, so one is refreshed.

@@ -4,6 +4,7 @@ ghost use Rattle.words.specs.Spending.{Spends};
 ghost use Rattle.shares.specs.Rule.{Within};
 ghost use Rattle.shares.specs.Groups.{residue_rule, word_of, residue_of};
 ghost use Rattle.shares.specs.Refresh.{pairs};
+ghost use Rattle.gadgets.specs.Masked.{Masked};
 
 use crate::modular::sec_add_modp;
 use linear::{each, public};
@@ -35,7 +36,7 @@ pub fn to_residues<const M: usize, P: ParamSet, S: Source>(
 ) -> Result<Shares<M>, Mark>
     requires some { 0 < M }
     requires below { word_of x < P.params.p }
-    ensures { Spends ((residue_rule P.params.p).cost * (M - 1) + (M + 1) * (33 * pairs M)) result (S.flow src.old) (S.flow src.new) (λ z. Within (residue_rule P.params.p) z × (residue_of P.params.p z ≡ word_of x.entry)) }
+    ensures { Spends ((residue_rule P.params.p).cost * (M - 1) + (M + 1) * (33 * pairs M)) result (S.flow src.old) (S.flow src.new) (λ z. Within (residue_rule P.params.p) z × (residue_of P.params.p z ≡ word_of x.entry) × Masked P.params.p M (S.flow src.old).words z) }
 {
     let mut out = draw_masks::<M, Residues<P>, S>(src)?;
     let negatives = each(out, |share| Residues::<P>::inverse(share));

@@ -8,7 +8,7 @@ ghost use Rattle.shares.specs.Rule.{Within};
 ghost use Rattle.shares.specs.Groups.{residue_rule, word_of, residue_of};
 ghost use Rattle.shares.specs.Refresh.{pairs};
 ghost use Rattle.gadgets.specs.Words.{is_below};
-ghost use Rattle.steps.specs.Candidate.{Judged, Tried};
+ghost use Rattle.steps.specs.Candidate.{Judged, Renewed, Tried};
 
 use gadgets::{Limit, sec_below, to_words};
 use linear::low_bits;
@@ -41,7 +41,8 @@ fn judge<const M: usize, S: Source>(
 ) -> Result<Option<Shares<M>>, Mark>
     requires some { 0 < M }
     requires small { word_of x < 2 ^ 31 }
-    ensures { Spends (17 * pairs M) result (S.flow src.old) (S.flow src.new) (λ o. Judged limit.value (word_of x.entry) o) }
+    ensures judged { Spends (17 * pairs M) result (S.flow src.old) (S.flow src.new) (λ o. Judged limit.value (word_of x.entry) o) }
+    ensures shares { Renewed M x.entry result (S.flow src.old) }
 {
     let x = fresh::<M, Words, S>(x, src)?;
     let below = sec_below(x, limit, src)?;

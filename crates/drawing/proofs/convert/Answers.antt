@@ -1,5 +1,6 @@
 use Rattle.std.proofs.Common.{◌≡◌, ℕ, ◌+◌, ◌-◌, ◌%◌, ◌<◌, List, length, get_or, set, sym, ap, ◌∙◌, subst, arith, rules}
 use native.Mathlib.Nat.{add-mod-mod}
+use Rattle.std.proofs.lemmas.List.{drop-set-lt}
 use Rattle.shares.specs.Rule.{Within}
 use Rattle.shares.specs.Groups.{residue_rule, residue_of, word_of}
 use Rattle.shares.specs.Lawful.{residue_laws}
@@ -33,4 +34,4 @@ returns g c =
     let room = sound.k_below_p in
     let p = s.p in
     let v = less-k p c.nonce_bound.result (word_of c.args.x) y c.join.result (omega arith) (omega arith) (omega arith) d.1.0 d.1.1 (c.join.ensures ∙ ap (λ (t : ℕ). (get_or y 0 0 + t) % p) c.inverse-less.ensures) in
-    record { by = (d.0, (v.0, v.1 ∙ ap (λ (t : ℕ). (word_of c.args.x + (p - t)) % p) k)) }
+    record { by = (d.0, (v.0, v.1 ∙ ap (λ (t : ℕ). (word_of c.args.x + (p - t)) % p) k, drop-set-lt 1 y 0 c.join.result (omega arith) ∙ d.1.2)) }
