@@ -6,9 +6,9 @@ ghost use Rattle.std.specs.Prelude.{◌≡◌, ◌*◌, ◌<◌, ◌≤◌, leng
 ghost use Rattle.gauge.specs.Gauge.{Columns, Gauged, GaugedBy, Sized, cost, set_of, status_of};
 ghost use Rattle.words.specs.Spending.{Spends};
 
-pub mod columns;
-pub mod gadget;
-pub mod step;
+mod columns;
+mod gadget;
+mod step;
 
 use columns::{COLUMNS, run_columns};
 use gadget::Gadget;
