@@ -26,17 +26,18 @@ pub fn centred<const N: usize, S: Set<N>>(v: u32) -> i32 {
     }
 }
 
-/// The long product. The N words of −b and then b from place N − i on are xⁱ·b; sums of 64 bits, and one remainder a coefficient.
+/// The long product. With b's coefficients from the highest down, and those of −b behind them, coefficient j is the sum of a's products with
+/// the N words from place N − 1 − j on: one remainder a coefficient.
 pub fn multiply<const N: usize, S: Set<N>>(out: &mut [u32; N], a: &[u32; N], b: &[u32; N]) {
-    let unrolled = [b.map(|x| if x == 0 { 0 } else { S::P - x }), *b];
-    let unrolled = unrolled.as_flattened();
-    let mut sums = [0u64; N];
-    for (i, &k) in a.iter().enumerate() {
-        for (sum, &x) in sums.iter_mut().zip(&unrolled[N - i..2 * N - i]) {
-            *sum += u64::from(k) * u64::from(x);
-        }
-    }
-    for (x, sum) in out.iter_mut().zip(sums) {
+    let mut turned = [*b, b.map(|x| if x == 0 { 0 } else { S::P - x })];
+    turned.iter_mut().for_each(|half| half.reverse());
+    let turned = turned.as_flattened();
+    for (j, x) in out.iter_mut().enumerate() {
+        let sum: u64 = a
+            .iter()
+            .zip(&turned[N - 1 - j..2 * N - 1 - j])
+            .map(|(&k, &met)| u64::from(k) * u64::from(met))
+            .sum();
         *x = (sum % u64::from(S::P)) as u32;
     }
 }

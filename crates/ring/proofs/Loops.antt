@@ -1,11 +1,13 @@
 -- The loops over coefficients, place by place, and the long product's.
-use Rattle.std.proofs.Common.{◌≡◌, ℕ, zero, suc, ◌+◌, ◌-◌, ◌*◌, ◌%◌, ◌^◌, ◌<◌, ◌≤◌, List, [], ◌∷◌, ◌++◌, length, get_or, map, take, drop, replicate, sym, refl, ap, ◌∙◌, subst, ap₂, add-zero, add_assoc, zero-add, mod-lt, arith}
-use native.Mathlib.Nat.{add-mod-mod, mod-add-mod}
-use Rattle.std.proofs.lemmas.List.{ext_get_or, get_or-take, get_or-drop, get_or-map, get_or_append_left, get_or-append_right, length-append, length-map, length-take-le, length-drop}
+use Rattle.std.proofs.Common.{◌≡◌, ℕ, zero, suc, ◌+◌, ◌-◌, ◌*◌, ◌%◌, ◌^◌, ◌<◌, ◌≤◌, List, [], ◌∷◌, length, get_or, take, drop, sym, refl, ap, ◌∙◌, subst, ap₂, inl, inr, mod-lt, arith}
+use native.Mathlib.Nat.{add-mod-mod, mod-add-mod, zero-mod}
+use Rattle.std.proofs.lemmas.Bool.{cases_lt}
+use Rattle.std.proofs.lemmas.List.{ext_get_or, get_or-map, get_or-take, get_or-drop, length-map, length-take-le, length-drop, drop_more, drop_all}
 use Rattle.std.proofs.lemmas.Nat.{mul-lt}
-use Rattle.ring.specs.Ring.{negate, Residues, reduced, zip_with, plus, scale, last_of, shift_in, times_x, zeros, product}
-use Rattle.ring.proofs.Polynomials.{cons, residues_append, length_zip, get_d_zip, length-times_x}
-use Rattle.ring.proofs.Algebra.{product-times_x, length-product, reduced-product}
+use Rattle.ring.specs.Long.{Turned, dot}
+use Rattle.ring.specs.Ring.{negate, Residues, zip_with, scale, last_of, shift_in, times_x, zeros, product}
+use Rattle.ring.proofs.Polynomials.{length_zip, get_d_zip, length-times_x}
+use Rattle.ring.proofs.Algebra.{product-times_x, length-product}
 
 -- f of xs and ys is written over xs: the places below i hold it, and the others are as they were
 abbrev pub Zipping : (ℕ → ℕ → ℕ) → List ℕ → List ℕ → List ℕ → ℕ → Type 0
@@ -34,117 +36,95 @@ shifted-at c (x ∷ []) k h = absurd (omega arith)
 shifted-at c (x ∷ y ∷ ys) zero h = refl
 shifted-at c (x ∷ y ∷ ys) (suc k) h = shifted-at x (y ∷ ys) k (omega arith)
 
--- xⁱ · b, as it stands in −b and then b
-abbrev pub Turned : ℕ → ℕ → List ℕ → ℕ → List ℕ
-Turned p n b i = take n (drop (n - i) (map (negate p) b ++ b))
-
-negate-residues : (p : ℕ) (xs : List ℕ) → 0 < p → Residues p (map (negate p) xs)
-negate-residues p xs some k h = subst (λ (v : ℕ). v < p) (sym (get_or-map (negate p) xs k 0 0 (omega (arith, length-map xs (negate p))))) (mod-lt _ some)
-
-module _ (p n : ℕ) (b : List ℕ) (long : length b ≡ n) where
-  length-unrolled : length (map (negate p) b ++ b) ≡ 2 * n
-  length-unrolled = length-append (map (negate p) b) b ∙ ap (λ (k : ℕ). k + length b) (length-map b (negate p)) ∙ omega arith
-
-  turned-at : (i k : ℕ) → k < n → get_or (Turned p n b i) k 0 ≡ get_or (map (negate p) b ++ b) (n - i + k) 0
-  turned-at i k h = get_or-take n (drop (n - i) (map (negate p) b ++ b)) k 0 h ∙ get_or-drop (n - i) (map (negate p) b ++ b) k 0
-
-  pub length-turned : (i : ℕ) → length (Turned p n b i) ≡ n
-  length-turned i = length-take-le n (drop (n - i) (map (negate p) b ++ b)) (omega (arith, length-drop (n - i) (map (negate p) b ++ b), length-unrolled))
-
-  pub turned-residues : (i : ℕ) → 0 < p → Residues p b → Residues p (Turned p n b i)
-  turned-residues i some r k h =
-      let l : k < n = omega (arith, length-turned i) in
-      subst (λ (v : ℕ). v < p) (sym (turned-at i k l))
-      (residues_append p (map (negate p) b) b (negate-residues p b some) r (n - i + k) (omega (arith, length-unrolled)))
-
-  -- as a range of the words
-  pub turned-range : (d i : ℕ) (us : List ℕ) → d ≡ n → i < n → us ≡ map (negate p) b ++ b → take (2 * d - i - (d - i)) (drop (d - i) us) ≡ Turned p n b i
-  turned-range d i us e h u =
-      let w : 2 * d - i - (d - i) ≡ n = omega arith in
-      let s : d - i ≡ n - i = omega arith in
-      rw (w, s, u) refl
-
-  pub turned-none : Turned p n b 0 ≡ b
-  turned-none =
-      ext_get_or 0 (Turned p n b 0) b (length-turned 0 ∙ sym long)
-      (λ k h. let l : k < n = omega (arith, length-turned 0) in
-      turned-at 0 k l ∙ get_or-append_right (map (negate p) b) b n (n - 0 + k) 0 (length-map b (negate p) ∙ long) (omega arith) ∙ ap (λ (t : ℕ). get_or b t 0) (omega arith))
-
-  -- one more factor x
-  turned-next : (i : ℕ) → i < n → (k : ℕ) → k < n → get_or (times_x p (Turned p n b i)) k 0 ≡ get_or (Turned p n b (i + 1)) k 0
-  turned-next i less zero h =
-      times_x-first p (Turned p n b i) (omega (arith, length-turned i))
-      ∙ ap (λ (t : ℕ). negate p (get_or (Turned p n b i) (t - 1) 0)) (length-turned i)
-      ∙ ap (negate p) (turned-at i (n - 1) (omega arith) ∙ get_or-append_right (map (negate p) b) b n (n - i + (n - 1)) 0 (length-map b (negate p) ∙ long) (omega arith))
-      ∙ sym (get_or-map (negate p) b (n - i + (n - 1) - n) 0 0 (omega arith))
-      ∙ sym (get_or_append_left (map (negate p) b) b 0 (n - i + (n - 1) - n) (omega (arith, length-map b (negate p))))
-      ∙ ap (λ (t : ℕ). get_or (map (negate p) b ++ b) t 0) (omega arith)
-      ∙ sym (turned-at (i + 1) 0 (omega arith))
-  turned-next i less (suc k) h =
-      shifted-at _ (Turned p n b i) k (omega (arith, length-turned i))
-      ∙ turned-at i k (omega arith)
-      ∙ ap (λ (t : ℕ). get_or (map (negate p) b ++ b) t 0) (omega arith)
-      ∙ sym (turned-at (i + 1) (suc k) h)
-
-  pub turned-more : (i : ℕ) → i < n → times_x p (Turned p n b i) ≡ Turned p n b (i + 1)
-  turned-more i less =
-      ext_get_or 0 (times_x p (Turned p n b i)) (Turned p n b (i + 1)) (length-times_x p (Turned p n b i) ∙ length-turned i ∙ sym (length-turned (i + 1)))
-      (λ k h. turned-next i less k (omega (arith, length-times_x p (Turned p n b i), length-turned i)))
-
--- a product of two numbers of 24 bits
-pub small_product : (k x : ℕ) → k < 2 ^ 24 → x < 2 ^ 24 → k * x < 2 ^ 48
-small_product k x h l = mul-lt k x (2 ^ 24) (2 ^ 24) h l
-
--- each sum grows by less than 2 ^ 48
-pub sums_grow : (m k : ℕ) (acc b : List ℕ) → length acc ≡ length b → k < 2 ^ 24 → Residues (2 ^ 24) b → Residues m acc → Residues (m + 2 ^ 48) (zip_with (λ s c. s + k * c) acc b)
-sums_grow m k acc b e h r q j l =
-    let i : j < length acc = omega (arith, length_zip (λ s c. s + k * c) acc b e) in
-    omega (arith, get_d_zip (λ s c. s + k * c) acc b j i (omega arith), q j i, small_product k (get_or b j 0) h (r j (omega arith)))
-
-add_step : (p k : ℕ) (acc b ts : List ℕ) → plus p (zip_with (λ s c. s + k * c) acc b) ts ≡ plus p acc (plus p (scale p k b) ts)
-add_step p k [] b ts = refl
-add_step p k (a ∷ acc) [] ts = refl
-add_step p k (a ∷ acc) (x ∷ b) [] = refl
-add_step p k (a ∷ acc) (x ∷ b) (t ∷ ts) =
-    ap₂ cons
-    (ap (λ (s : ℕ). s % p) (add_assoc a (k * x) t) ∙ sym (add-mod-mod a (k * x + t) p) ∙ ap (λ (s : ℕ). (a + s) % p) (sym (mod-add-mod (k * x) p t)))
-    (add_step p k acc b ts)
-
--- one turn of the long product
-pub product_more : (p k : ℕ) (acc b more : List ℕ) → plus p (zip_with (λ s c. s + k * c) acc b) (product p more (times_x p b)) ≡ plus p acc (product p (k ∷ more) b)
-product_more p k acc b more =
-    ap (plus p (zip_with (λ s c. s + k * c) acc b)) (product-times_x p more b) ∙ add_step p k acc b (times_x p (product p more b))
-
-zeros_plus : (p : ℕ) (xs ts : List ℕ) → length xs ≡ length ts → plus p (zeros xs) ts ≡ reduced p ts
-zeros_plus p [] [] e = refl
-zeros_plus p [] (t ∷ ts) e = absurd (omega arith)
-zeros_plus p (x ∷ xs) [] e = refl
-zeros_plus p (x ∷ xs) (t ∷ ts) e = ap₂ cons (ap (λ (s : ℕ). s % p) (zero-add t)) (zeros_plus p xs ts (omega arith))
-
--- how it begins
-pub product_none : (p : ℕ) (acc a b : List ℕ) → acc ≡ zeros acc → length acc ≡ length b → plus p acc (product p a b) ≡ product p a b
-product_none p acc a b z e =
-    ap (λ (s : List ℕ). plus p s (product p a b)) z ∙ zeros_plus p acc (product p a b) (e ∙ sym (length-product p a b)) ∙ reduced-product p a b
-
--- and how it ends
-pub product_all : (p : ℕ) (acc b : List ℕ) → length acc ≡ length b → plus p acc (product p [] b) ≡ reduced p acc
-product_all p [] b e = refl
-product_all p (x ∷ acc) [] e = absurd (omega arith)
-product_all p (x ∷ acc) (t ∷ b) e = ap₂ cons (ap (λ (s : ℕ). s % p) (add-zero x)) (product_all p acc b (omega arith))
-
 zeros_all : (xs : List ℕ) (j : ℕ) → get_or (zeros xs) j 0 ≡ 0
 zeros_all [] j = refl
 zeros_all (x ∷ xs) zero = refl
 zeros_all (x ∷ xs) (suc j) = zeros_all xs j
 
-pub zeros_below : (xs : List ℕ) → xs ≡ zeros xs → Residues 1 xs
-zeros_below xs e j h = omega (arith, ap (λ (ys : List ℕ). get_or ys j 0) e, zeros_all xs j)
+-- the words r have b turned
+module _ (n p : ℕ) (b r : List ℕ) (turned : Turned n p b r) (long : length b ≡ n) where
+  -- t is xⁱ · b: coefficient j stands i places behind place n − 1 − j of r
+  abbrev pub Power : ℕ → List ℕ → Type 0
+  Power i t = (length t ≡ n) × ((j : ℕ) → j < n → get_or t j 0 ≡ get_or r (n - 1 - j + i) 0)
 
-take_zeros : (k n : ℕ) → take k (replicate n 0) ≡ zeros (take k (replicate n 0))
-take_zeros zero n = refl
-take_zeros (suc k) zero = refl
-take_zeros (suc k) (suc n) = ap (cons 0) (take_zeros k n)
+  power-none : Power 0 b
+  power-none = (
+    long,
+    λ j h.
+        let same : j ≡ n - 1 - (n - 1 - j) = omega arith in
+        let here : n - 1 - j ≡ n - 1 - j + 0 = omega arith in
+        ap (λ (k : ℕ). get_or b k 0) same ∙ sym (turned (n - 1 - j) (omega arith)).0 ∙ ap (λ (k : ℕ). get_or r k 0) here,
+  )
 
--- room of zeros holds zeros
-pub zeros_room : (k n : ℕ) (xs : List ℕ) → xs ≡ replicate n 0 → take k xs ≡ zeros (take k xs)
-zeros_room k n xs e = rw e (take_zeros k n)
+  -- one more factor x
+  power-place : (i : ℕ) (t : List ℕ) → i < n → Power i t → (j : ℕ) → j < n → get_or (times_x p t) j 0 ≡ get_or r (n - 1 - j + (i + 1)) 0
+  power-place i t less w zero h =
+      let last : n - 1 - (n - 1) + i ≡ i = omega arith in
+      let first : n + i ≡ n - 1 - 0 + (i + 1) = omega arith in
+      times_x-first p t (omega (arith, w.0))
+      ∙ ap (λ (m : ℕ). negate p (get_or t (m - 1) 0)) w.0
+      ∙ ap (negate p) (w.1 (n - 1) (omega arith) ∙ ap (λ (k : ℕ). get_or r k 0) last ∙ (turned i less).0)
+      ∙ sym (turned i less).1
+      ∙ ap (λ (k : ℕ). get_or r k 0) first
+  power-place i t less w (suc j) h =
+      let next : n - 1 - j + i ≡ n - 1 - suc j + (i + 1) = omega arith in
+      shifted-at _ t j (omega (arith, w.0)) ∙ w.1 j (omega arith) ∙ ap (λ (k : ℕ). get_or r k 0) next
+
+  power-more : (i : ℕ) (t : List ℕ) → i < n → Power i t → Power (i + 1) (times_x p t)
+  power-more i t less w = (length-times_x p t ∙ w.0, power-place i t less w)
+
+  -- coefficient j of xs · t, by the words that the coefficients xs meet
+  met-at : (xs ws t : List ℕ) (i j : ℕ) → j < n → i + length xs ≤ n → length xs ≤ length ws → Power i t → ((k : ℕ) → k < length xs → get_or ws k 0 ≡ get_or r (n - 1 - j + i + k) 0)
+      → get_or (product p xs t) j 0 ≡ dot xs ws % p
+  met-at [] ws t i j h room enough w at = zeros_all t j ∙ sym (zero-mod p)
+  met-at (a ∷ xs) [] t i j h room enough w at = absurd (omega arith)
+  met-at (a ∷ xs) (x ∷ ws) t i j h room enough w at =
+      let more = power-more i t (omega arith) w in
+      let here : n - 1 - j + i + 0 ≡ n - 1 - j + i = omega arith in
+      let head : x ≡ get_or t j 0 = at 0 (omega arith) ∙ ap (λ (k : ℕ). get_or r k 0) here ∙ sym (w.1 j h) in
+      let rest : get_or (product p xs (times_x p t)) j 0 ≡ dot xs ws % p =
+      met-at xs ws (times_x p t) (i + 1) j h (omega arith) (omega arith) more
+      (λ k l. let next : n - 1 - j + i + suc k ≡ n - 1 - j + (i + 1) + k = omega arith in at (suc k) (omega arith) ∙ ap (λ (m : ℕ). get_or r m 0) next) in
+      let scaled : get_or (scale p a t) j 0 ≡ (a * x) % p = get_or-map (λ (v : ℕ). (a * v) % p) t j 0 0 (omega (arith, w.0)) ∙ ap (λ (v : ℕ). (a * v) % p) (sym head) in
+      get_d_zip (λ (u v : ℕ). (u + v) % p) (scale p a t) (times_x p (product p xs t)) j
+      (omega (arith, length-map t (λ (v : ℕ). (a * v) % p), w.0)) (omega (arith, length-times_x p (product p xs t), length-product p xs t, w.0))
+      ∙ ap₂ (λ (u v : ℕ). (u + v) % p) scaled (ap (λ (ts : List ℕ). get_or ts j 0) (sym (product-times_x p xs t)) ∙ rest)
+      ∙ add-mod-mod ((a * x) % p) (dot xs ws) p
+      ∙ mod-add-mod (a * x) p (dot xs ws)
+
+  -- so coefficient j of a · b is a's sum of products with the words from place n − 1 − j on
+  pub coefficient-at : (a ws : List ℕ) (j : ℕ) → j < n → length a ≡ n → length ws ≡ n → ((k : ℕ) → k < n → get_or ws k 0 ≡ get_or r (n - 1 - j + k) 0) → get_or (product p a b) j 0 ≡ dot a ws % p
+  coefficient-at a ws j h l m at =
+      met-at a ws b 0 j h (omega arith) (omega arith) power-none
+      (λ k q. let here : n - 1 - j + k ≡ n - 1 - j + 0 + k = omega arith in at k (omega arith) ∙ ap (λ (i : ℕ). get_or r i 0) here)
+
+  -- these words, as a range of r
+  pub met-long : (d j : ℕ) → d ≡ n → j < n → length r ≡ 2 * n → length (take (2 * d - 1 - j - (d - 1 - j)) (drop (d - 1 - j) r)) ≡ n
+  met-long d j e h l = length-take-le (2 * d - 1 - j - (d - 1 - j)) (drop (d - 1 - j) r) (omega (arith, length-drop (d - 1 - j) r)) ∙ omega arith
+
+  pub met-place : (d j k : ℕ) → d ≡ n → j < n → k < n → get_or (take (2 * d - 1 - j - (d - 1 - j)) (drop (d - 1 - j) r)) k 0 ≡ get_or r (n - 1 - j + k) 0
+  met-place d j k e h l =
+      get_or-take (2 * d - 1 - j - (d - 1 - j)) (drop (d - 1 - j) r) k 0 (omega arith)
+      ∙ get_or-drop (d - 1 - j) r k 0
+      ∙ ap (λ (m : ℕ). get_or r (m - 1 - j + k) 0) e
+
+  -- and they are residues where b's are
+  pub turned-residues : (k : ℕ) → 0 < p → Residues p b → k < 2 * n → get_or r k 0 < p
+  turned-residues k some w h =
+      elim (cases_lt k n) [
+        | inl l ↦ subst (λ (v : ℕ). v < p) (sym (turned k l).0) (w (n - 1 - k) (omega arith))
+        | inr l ↦
+            let back : n + (k - n) ≡ k = omega arith in
+            subst (λ (v : ℕ). v < p) (sym (ap (λ (m : ℕ). get_or r m 0) (sym back) ∙ (turned (k - n) (omega arith)).1)) (mod-lt _ some)
+      ]
+
+-- a product of two numbers of 24 bits
+pub small_product : (k x : ℕ) → k < 2 ^ 24 → x < 2 ^ 24 → k * x < 2 ^ 48
+small_product k x h l = mul-lt k x (2 ^ 24) (2 ^ 24) h l
+
+-- one more product
+pub dot-more : (i : ℕ) (xs ys : List ℕ) → i < length xs → i < length ys → dot (drop i xs) (drop i ys) ≡ get_or xs i 0 * get_or ys i 0 + dot (drop (i + 1) xs) (drop (i + 1) ys)
+dot-more i xs ys h l = ap₂ dot (drop_more xs i 0 h) (drop_more ys i 0 l)
+
+pub dot-none : (i : ℕ) (xs ys : List ℕ) → length xs ≤ i → dot (drop i xs) (drop i ys) ≡ 0
+dot-none i xs ys h = ap (λ (zs : List ℕ). dot zs (drop i ys)) (drop_all i xs h)

@@ -1,8 +1,9 @@
 // Residues modulo p, and polynomials of n residues modulo xⁿ + 1, for any parameter set.
 #![tactic(auto)]
 
-ghost use Rattle.std.specs.Prelude.{◌≡◌, ⊤, ◌+◌, ◌-◌, ◌*◌, ◌%◌, ◌^◌, ◌<◌, ◌++◌, map, length, if◌then◌else◌, nat_le};
-ghost use Rattle.ring.specs.Ring.{negate, residue, centre, Residues, reduced, zip_with, plus, minus, zeros, product};
+ghost use Rattle.std.specs.Prelude.{◌≡◌, ⊤, ◌+◌, ◌-◌, ◌*◌, ◌%◌, ◌<◌, length, if◌then◌else◌, nat_le};
+ghost use Rattle.ring.specs.Ring.{negate, residue, centre, Residues, plus, minus, product};
+ghost use Rattle.ring.specs.Long.{Turned, dot};
 ghost use Rattle.ring.specs.Laws.{Proper, RingLaws, CentringLaws};
 
 use params::ParamSet;
@@ -146,65 +147,42 @@ pub trait Multiply<S: ParamSet> {
     }
 }
 
-// acc + k · x, with no reduction.
-fn add_scaled<S: ParamSet>(acc: &mut [u64], k: u32, x: Poly<'_, S>)
-    requires lengths { length acc.old ≡ S.params.n }
-    requires room { Residues (2 ^ 63) acc.old }
-    requires factor { k < S.params.p }
-    ensures { acc.new ≡ zip_with (λ s c. s + k * c) acc.old x.entry.words.now }
-{
-    for (i, sum) in acc.iter_mut().enumerate() {
-        *sum += k as u64 * x.words[i] as u64;
-    }
-}
-
-// −b and then b: the n words from place n − i on are xⁱ · b.
-fn unroll<S: ParamSet>(out: &mut [u32], b: Poly<'_, S>)
+// b's coefficients from the highest down, and behind them those of −b: the n words from place n − 1 − j on are what a's coefficients
+// meet in coefficient j of a · b.
+fn turn<S: ParamSet>(out: &mut [u32], b: Poly<'_, S>)
     requires { length out.old ≡ 2 * S.params.n }
-    ensures { out.new ≡ map (negate S.params.p) b.entry.words.now ++ b.entry.words.now }
-{
-    let (negative, positive) = out.split_at_mut(S::degree());
-    for (i, coefficient) in negative.iter_mut().enumerate() {
-        *coefficient = negated::<S>(b.words[i]);
-    }
-    positive.copy_from_slice(b.words);
-}
-
-// Sums a's coefficients times b, x · b, x² · b and so on. A sum of n products stays below 2⁵⁸, so it is reduced once, at the
-// end.
-fn accumulate<S: ParamSet>(acc: &mut [u64], a: Poly<'_, S>, b: Poly<'_, S>)
-    requires room { length acc.old ≡ S.params.n }
-    requires empty { acc.old ≡ zeros acc.old }
-    ensures { reduced S.params.p acc.new ≡ product S.params.p a.entry.words.now b.entry.words.now }
+    ensures { Turned S.params.n S.params.p b.entry.words.now out.new }
 {
     let n = S::degree();
-    let mut room = [0; 2 * MOST];
-    let unrolled = &mut room[..2 * n];
-    unroll(unrolled, b);
-    for (i, coefficient) in a.words.iter().enumerate() {
-        add_scaled::<S>(acc, *coefficient, Poly::new(&unrolled[n - i..2 * n - i]));
+    for (i, coefficient) in b.words.iter().enumerate() {
+        out[n - 1 - i] = *coefficient;
+        out[2 * n - 1 - i] = negated::<S>(*coefficient);
     }
 }
 
-fn reduce<S: ParamSet>(out: &mut [u32], sums: &[u64])
-    requires { length out.old ≡ length sums.now }
-    ensures value { out.new ≡ reduced S.params.p sums.now }
-    ensures residues { Residues S.params.p out.new }
+// The sum of the products of what stands at the same place, with no reduction: n products of 48 bits stay below 2⁵⁸.
+fn dot<S: ParamSet>(a: Poly<'_, S>, b: Poly<'_, S>) -> u64
+    ensures { result ≡ dot a.entry.words.now b.entry.words.now }
 {
-    let p = S::modulus() as u64;
-    for (i, coefficient) in out.iter_mut().enumerate() {
-        *coefficient = (sums[i] % p) as u32;
+    let mut sum = 0u64;
+    for (i, coefficient) in a.words.iter().enumerate() {
+        sum += *coefficient as u64 * b.words[i] as u64;
     }
+    sum
 }
 
-// The long product: each coefficient of a times b, n² products in all.
+// The long product: each coefficient of a times b, n² products in all. Each sum is reduced once, at its end.
 pub struct LongProduct;
 
 impl<S: ParamSet> Multiply<S> for LongProduct {
     fn multiply_words(out: &mut [u32], a: &[u32], b: &[u32]) {
-        let mut sums = [0; MOST];
-        let acc = &mut sums[..S::degree()];
-        accumulate::<S>(acc, Poly::new(a), Poly::new(b));
-        reduce::<S>(out, acc)
+        let n = S::degree();
+        let mut room = [0; 2 * MOST];
+        let turned = &mut room[..2 * n];
+        turn::<S>(turned, Poly::new(b));
+        for (j, coefficient) in out.iter_mut().enumerate() {
+            let met = Poly::new(&turned[n - 1 - j..2 * n - 1 - j]);
+            *coefficient = (dot::<S>(Poly::new(a), met) % S::modulus() as u64) as u32;
+        }
     }
 }
