@@ -62,21 +62,30 @@ impl Feed {
     }
 }
 
+// The word that comes next, through each check from the lowest up.
+// Out of line, so that a draw with no check is short enough to stand at each call.
+#[cold]
+#[cycle(draw)]
+fn draw_checked(watch: &mut Watch, below: &mut Feed) -> Result<u32, Mark>
+    ensures { Drawn result (health_flow watch.old (feed_flow below.old)) (health_flow watch.new (feed_flow below.new)) }
+{
+    watch.check()?;
+    let word = below.draw()?;
+    watch.admit(word)
+}
+
 impl Source for Feed {
     ghost flow = { feed_flow };
 
     ghost few = { feed_few };
 
-    // The word that comes next, through each check from the lowest up.
+    #[inline]
+    #[cycle(draw)]
     fn draw(&mut self) -> Result<u32, Mark> {
         match self {
             Feed::Tape(tape) => tape.draw(),
             Feed::Stretched(generator) => generator.draw(),
-            Feed::Checked(watch, below) => {
-                watch.check()?;
-                let word = below.draw()?;
-                watch.admit(word)
-            }
+            Feed::Checked(watch, below) => draw_checked(watch, below),
         }
     }
 }

@@ -1,6 +1,8 @@
 -- Residues that stand for integers near 0.
-use Rattle.std.proofs.Common.{◌≡◌, ℕ, zero, suc, ◌-◌, ◌/◌, ◌%◌, ◌<◌, ◌≤◌, leb, List, [], ◌∷◌, map, ℤ, pos, negsuc, ◌-ℤ◌, nat_abs, refl, ap, ◌∙◌, ap₂, mod-lt, mod-eq_of_lt, arith}
-use Rattle.std.proofs.lemmas.Int.{ints}
+use Rattle.std.proofs.Common.{◌≡◌, ℕ, zero, suc, ◌+◌, ◌-◌, ◌*◌, ◌/◌, ◌%◌, ◌<◌, ◌≤◌, leb, List, [], ◌∷◌, map, ℤ, pos, negsuc, ◌-ℤ◌, nat_abs, refl, ap, ◌∙◌, ap₂, mod-lt, mod-eq_of_lt, arith}
+use Rattle.std.specs.Int.{int_rem_euclid}
+use Rattle.std.proofs.lemmas.Int.{ints, int_rem_euclid_is}
+use native.Mathlib.Nat.{mod-add-div}
 use Rattle.std.proofs.lemmas.Bool.{leb-false, le-leb, lt-leb, cond-true, cond-false, cond_both}
 use Rattle.ring.specs.Ring.{negate, residue, centre, Residues}
 use Rattle.ring.proofs.Modular.{negate_some}
@@ -36,6 +38,14 @@ centre_residue p (negsuc m) s h =
 pub residue_below : (p : ℕ) (z : ℤ) → 0 < p → residue p z < p
 residue_below p (pos v) h = mod-lt v h
 residue_below p (negsuc v) h = mod-lt (p - suc v % p) h
+
+-- the remainder that is not negative
+pub rem_euclid_residue : (p : ℕ) (z : ℤ) → 0 < p → int_rem_euclid z (pos p) ≡ pos (residue p z)
+rem_euclid_residue p (pos v) h = int_rem_euclid_is (pos v) (pos p) p 0 v h refl (omega (arith, ints))
+rem_euclid_residue p (negsuc v) h =
+    let l : suc v % p < p = mod-lt (suc v) h in
+    let e : suc v % p + p * (suc v / p) ≡ suc v = mod-add-div (suc v) p in
+    int_rem_euclid_is (negsuc v) (pos p) p (suc v / p + 1) (p - suc v % p) h refl (omega (arith, ints))
 
 -- the same for lists
 pub map_residues : (p : ℕ) (zs : List ℤ) → 0 < p → Residues p (map (residue p) zs)

@@ -2,7 +2,7 @@
 use Rattle.std.proofs.Common.{◌≡◌, ℕ, zero, suc, ◌+◌, ◌-◌, ◌*◌, ◌%◌, ◌^◌, ◌<◌, ◌≤◌, List, [], ◌∷◌, length, get_or, take, drop, sym, refl, ap, ◌∙◌, subst, ap₂, inl, inr, mod-lt, arith}
 use native.Mathlib.Nat.{add-mod-mod, mod-add-mod, zero-mod}
 use Rattle.std.proofs.lemmas.Bool.{cases_lt}
-use Rattle.std.proofs.lemmas.List.{ext_get_or, get_or-map, get_or-take, get_or-drop, length-map, length-take-le, length-drop, drop_more, drop_all}
+use Rattle.std.proofs.lemmas.List.{ext_get_or, get_or-map, get_or-take, get_or-drop, length-map, length-take-le, length-drop, drop_more}
 use Rattle.std.proofs.lemmas.Nat.{mul-lt}
 use Rattle.ring.specs.Long.{Turned, dot}
 use Rattle.ring.specs.Ring.{negate, Residues, zip_with, scale, last_of, shift_in, times_x, zeros, product}
@@ -125,6 +125,3 @@ small_product k x h l = mul-lt k x (2 ^ 24) (2 ^ 24) h l
 -- one more product
 pub dot-more : (i : ℕ) (xs ys : List ℕ) → i < length xs → i < length ys → dot (drop i xs) (drop i ys) ≡ get_or xs i 0 * get_or ys i 0 + dot (drop (i + 1) xs) (drop (i + 1) ys)
 dot-more i xs ys h l = ap₂ dot (drop_more xs i 0 h) (drop_more ys i 0 l)
-
-pub dot-none : (i : ℕ) (xs ys : List ℕ) → length xs ≤ i → dot (drop i xs) (drop i ys) ≡ 0
-dot-none i xs ys h = ap (λ (zs : List ℕ). dot zs (drop i ys)) (drop_all i xs h)

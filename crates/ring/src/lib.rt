@@ -68,19 +68,7 @@ pub fn centred<S: ParamSet>(v: u32) -> i32
 pub fn to_residue<S: ParamSet>(z: i16) -> u32
     ensures { result ≡ residue S.params.p z }
 {
-    let size = z.unsigned_abs() as u32;
-    if z < 0 {
-        negated::<S>(size)
-    } else {
-        size % S::modulus()
-    }
-}
-
-fn negated<S: ParamSet>(x: u32) -> u32
-    ensures { result ≡ negate S.params.p x }
-{
-    let p = S::modulus();
-    (p - x % p) % p
+    (z as i32).rem_euclid(S::modulus() as i32) as u32
 }
 
 // A sum below 2p, reduced by one subtraction at most.
@@ -89,6 +77,13 @@ fn reduce_once<S: ParamSet>(sum: u32) -> u32
 {
     let p = S::modulus();
     if sum >= p { sum - p } else { sum }
+}
+
+fn negated<S: ParamSet>(x: u32) -> u32
+    requires { x < S.params.p }
+    ensures { result ≡ negate S.params.p x }
+{
+    reduce_once::<S>(S::modulus() - x)
 }
 
 fn add<S: ParamSet>(x: u32, y: u32) -> u32
@@ -175,6 +170,8 @@ fn dot<S: ParamSet>(a: Poly<'_, S>, b: Poly<'_, S>) -> u64
 pub struct LongProduct;
 
 impl<S: ParamSet> Multiply<S> for LongProduct {
+    // Never inlined: within a long function its inner loop would stand at any place, and run slower for it.
+    #[inline(never)]
     fn multiply_words(out: &mut [u32], a: &[u32], b: &[u32]) {
         let n = S::degree();
         let mut room = [0; 2 * MOST];
