@@ -1,5 +1,5 @@
 /*
- * The functions that a C program may link from libexports_c.a, for set I, the cards in the field. docs/C.md says how to build.
+ * The functions that a C program may link from libexports.a, for set I, the cards in the field. docs/C.md says how to build.
  *
  * What each function answers and leaves is proved for every content of the areas that it is lent (crates/exports). A wrong
  * length is refused, and nothing needs to be tested before a call. What no proof can see is what C hands over. The caller owes:
