@@ -74,6 +74,13 @@ module _ (e : Setting) where
           unfolding finish
           finish-rejected ok = charge-paid Commit spent _ paid ∙ charge-paid Check (spent + price Commit) _ checked ∙ choose_not _ _ _ ok
 
+          -- .. and no try is left, or one is
+          pub finish-failed : passes e.set r ≡ false → more ≤ 0 → finish e more a ws seen left r spent again ≡ stop e all_failed ws (rejected r) seen 0 (spent + price Commit + price Check) left
+          finish-failed ok none = finish-rejected ok ∙ choose_is _ _ _ (le-leb _ _ none)
+
+          pub finish-again : passes e.set r ≡ false → 0 < more → finish e more a ws seen left r spent again ≡ after_rejected ws r (again (spent + price Commit + price Check))
+          finish-again ok some = finish-rejected ok ∙ choose_not _ _ _ (lt-leb _ _ some)
+
           module _ (ok : passes e.set r ≡ true) where
             opened : finish e more a ws seen left r spent again ≡ charge e Open a ws seen left (spent + price Commit + price Check) λ spent. stop e (signed r) ws (passed r) seen 0 spent left
             unfolding finish

@@ -1,5 +1,5 @@
 -- Lists of coefficients: lengths, residues, sums and differences.
-use Rattle.std.proofs.Common.{◌≡◌, ℕ, zero, suc, ◌+◌, ◌-◌, ◌%◌, ◌<◌, List, [], ◌∷◌, ◌++◌, length, get_or, replicate, sym, refl, ap, ◌∙◌, ap₂, add-zero, add_assoc, mod-lt, mod-eq_of_lt, add_comm, arith}
+use Rattle.std.proofs.Common.{◌≡◌, ℕ, zero, suc, ◌+◌, ◌-◌, ◌%◌, ◌<◌, List, [], ◌∷◌, ◌++◌, length, get_or, set, replicate, sym, refl, ap, ◌∙◌, ap₂, add-zero, add_assoc, mod-lt, mod-eq_of_lt, add_comm, arith}
 use native.Mathlib.Nat.{mod-add-mod, add-mod-mod}
 use Rattle.ring.specs.Laws.{constant}
 use Rattle.ring.specs.Ring.{negate, Residues, reduced, zip_with, plus, minus, shift_in, times_x}
@@ -25,6 +25,13 @@ pub mod_residues : (p : ℕ) (xs : List ℕ) → 0 < p → Residues p (reduced p
 mod_residues p [] h k l = absurd (omega arith)
 mod_residues p (x ∷ xs) h zero l = mod-lt x h
 mod_residues p (x ∷ xs) h (suc k) l = mod_residues p xs h k (omega arith)
+
+pub residues_set : (p : ℕ) (xs : List ℕ) (i v : ℕ) → Residues p xs → v < p → Residues p (set xs i v)
+residues_set p [] i v h l j k = h j k
+residues_set p (x ∷ xs) zero v h l zero k = l
+residues_set p (x ∷ xs) zero v h l (suc j) k = h (suc j) k
+residues_set p (x ∷ xs) (suc i) v h l zero k = h zero (omega arith)
+residues_set p (x ∷ xs) (suc i) v h l (suc j) k = residues_set p xs i v (residues_tail p x xs h) l j (omega arith)
 
 pub length_zip : (f : ℕ → ℕ → ℕ) (xs ys : List ℕ) → length xs ≡ length ys → length (zip_with f xs ys) ≡ length ys
 length_zip f [] ys e = e

@@ -1,7 +1,7 @@
 -- The first place at which a test holds: the steps of a loop, and the law.
-use Rattle.std.proofs.Common.{◌≡◌, ℕ, zero, suc, ◌+◌, ◌<◌, ◌≤◌, Bool, false, cond, List, [], ◌∷◌, ◌++◌, length, get_or, Some, None, sym, refl, ap, ◌∙◌, subst, ⊎_elim, arith}
-use Rattle.std.proofs.lemmas.List.{append-nil, append_assoc, length-append, get_or_append_left, get_or_at}
-use Rattle.std.proofs.lemmas.Bool.{cond_both, cond-false, cases_lt}
+use Rattle.std.proofs.Common.{◌≡◌, ℕ, zero, suc, ◌+◌, ◌<◌, ◌≤◌, Bool, true, false, cond, List, [], ◌∷◌, ◌++◌, length, get_or, drop, Some, None, sym, refl, ap, ◌∙◌, subst, ⊎_elim, arith}
+use Rattle.std.proofs.lemmas.List.{at_drop_more, at_drop_all, append-nil, append_assoc, length-append, get_or_append_left, get_or_at}
+use Rattle.std.proofs.lemmas.Bool.{cond_both, cond-true, cond-false, cases_lt}
 use Rattle.std.proofs.lemmas.Iterator.Adapters.{position_from-zero}
 use Rattle.std.specs.List.{position, position_from}
 use Rattle.search.specs.First.{first_from, first_at, First}
@@ -15,6 +15,16 @@ pub position-first : {A : Type 0} (test : A → Bool) (xs : List A) → position
 position-first test xs = position_from-zero test xs ∙ position_from-first test 0 xs
 
 module _ {A : Type 0} (d : A) (test : A → Bool) where
+  -- a loop over the places: the test holds at i, it fails at i, no place is left
+  pub hit-here : (xs : List A) (i : ℕ) → i < length xs → test (get_or xs i d) ≡ true → first_from test i (drop i xs) ≡ Some i
+  hit-here xs i l e = at_drop_more (first_from test i) xs i d l ∙ cond-true (test (get_or xs i d)) (Some i) (first_from test (i + 1) (drop (i + 1) xs)) e
+
+  pub miss-here : (xs : List A) (i : ℕ) → i < length xs → test (get_or xs i d) ≡ false → first_from test i (drop i xs) ≡ first_from test (i + 1) (drop (i + 1) xs)
+  miss-here xs i l e = at_drop_more (first_from test i) xs i d l ∙ cond-false (test (get_or xs i d)) (Some i) (first_from test (i + 1) (drop (i + 1) xs)) e
+
+  pub none_left : (xs : List A) (i : ℕ) → length xs ≤ i → first_from test i (drop i xs) ≡ None
+  none_left xs i l = at_drop_all (first_from test i) xs i l
+
   abbrev Fails : List A → Type 0
   Fails xs = (k : ℕ) → k < length xs → test (get_or xs k d) ≡ false
 

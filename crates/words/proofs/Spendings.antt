@@ -1,5 +1,5 @@
 -- How the spendings of calls in a row add up.
-use Rattle.std.proofs.Common.{◌≡◌, ℕ, suc, ◌+◌, ◌*◌, ◌<◌, ◌≤◌, length, drop, Ok, Err, Result, sym, refl, ap, ◌∙◌, mul-le-mul_right, add-mul, one-mul, zero-mul, arith, length-drop}
+use Rattle.std.proofs.Common.{◌≡◌, ℕ, suc, ◌+◌, ◌*◌, ◌<◌, ◌≤◌, length, get_or, drop, Ok, Err, Result, sym, refl, ap, ◌∙◌, mul-le-mul_right, add-mul, one-mul, zero-mul, arith, length-drop}
 use Rattle.std.proofs.lemmas.List.{drop-drop}
 use Rattle.words.specs.declared.Mark.{Mark}
 use Rattle.words.specs.Flow.{Flow, Drawn}
@@ -45,6 +45,11 @@ pub short_one : {e : Mark} {f f' : Flow} → Drawn (Err e) f f' → Short 1 e f 
 short_one {f = f} d =
     let long : length f.words ≡ 0 = ap length d.0 in
     record { few = omega arith; rest = d.1; why = d.2; mark = d.3; origin = d.4 }
+
+-- a draw takes one word, the first
+pub spends_one : {f f' : Flow} (r : Result ℕ Mark) → Drawn r f f' → Spends 1 r f f' (λ w. w ≡ get_or f.words 0 0)
+spends_one (Ok w) d = record { by = (spent_one d, sym (ap (λ ws. get_or ws 0 0) d.0)) }
+spends_one (Err e) d = record { by = short_one d }
 
 -- a call whose answer is returned, after others
 pub spends_then : {A : Type 0} {P : A → Type 0} {a b : ℕ} {f f₁ f₂ : Flow} (r : Result A Mark) → Spent a f f₁ → Spends b r f₁ f₂ P → Spends (a + b) r f f₂ P

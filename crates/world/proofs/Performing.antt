@@ -1,5 +1,5 @@
 -- A call of a card that was lent the areas of a scenario.
-use Rattle.std.proofs.Common.{◌≡◌, ℕ, ◌*◌, List, length, replicate, Some, vec_items, vec_len, Vec, refl, subst}
+use Rattle.std.proofs.Common.{◌≡◌, ℕ, ◌*◌, List, length, replicate, Some, Ok, Err, vec_items, vec_len, Result, Vec, refl, ap, ◌∙◌, subst, MatchResult}
 use Rattle.std.specs.Vec.{with_items}
 use Rattle.std.specs.declared.alloc.Global.{Global}
 use Rattle.std.proofs.lemmas.List.{with_items_is}
@@ -15,7 +15,9 @@ use Rattle.calls.specs.declared.reply.Reply.{Reply}
 use Rattle.world.specs.Areas.{lent}
 use Rattle.answers.specs.Texts.{answer_of}
 use Rattle.world.specs.Cards.{Performed, Records, with_call}
+use Rattle.world.specs.State.{with_made}
 use Rattle.world.specs.declared.card_state.CardState.{CardState}
+use Rattle.world.specs.declared.state.World.{World}
 
 module _ (s : Params) (call : Call) (card card' : Card) (c : CardState) (public key key' work work' bytes bytes' : List ℕ) (nonces' masks' : Feed) (reply : Reply) (area made made' : Vec ℕ Global) where
   pub call-done : key ≡ vec_items c.key → length key' ≡ vec_len c.key → work ≡ replicate (lent c.work (6 * c.shares * s.n)) 0 → bytes ≡ replicate (lent c.room (size s)) 0 → length bytes' ≡ vec_len area →
@@ -36,3 +38,12 @@ module _ (s : Params) (call : Call) (card card' : Card) (c : CardState) (public 
         records = subst (λ (l : List ℕ). Records reply l made made') (with_items_is area bytes' bytes-long) records;
         rest = refl;
       }
+
+-- with the card's things and the last record that it has, a world is as it was
+pub same_world : (w : World) (card : CardState) (made : Vec ℕ Global) → card ≡ w.card → made ≡ w.made → with_made w card made ≡ w
+same_world w card made same-card same-made = ap (λ (x : CardState). with_made w x made) same-card ∙ ap (λ (x : Vec ℕ Global). with_made w w.card x) same-made
+
+-- what is known of an answer or an error, from what was known of it before
+pub cases_map : {A E : Type 0} (P P' : A → Type 0) (Q Q' : E → Type 0) (r : Result A E) → ((a : A) → P a → P' a) → ((e : E) → Q e → Q' e) → MatchResult r P Q → MatchResult r P' Q'
+cases_map P P' Q Q' (Ok a) f g h = f a h
+cases_map P P' Q Q' (Err e) f g h = g e h
