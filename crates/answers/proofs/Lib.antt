@@ -1,1 +1,1 @@
-mod Spellings
+pub mod Spellings

@@ -166,7 +166,27 @@ fn dot<S: ParamSet>(a: Poly<'_, S>, b: Poly<'_, S>) -> u64
     sum
 }
 
-// The long product: each coefficient of a times b, n² products in all. Each sum is reduced once, at its end.
+// A set with no more coefficients takes its room from a small array: to clear one for MOST would take longer than its product.
+const FEW: usize = 16;
+
+// Each coefficient of a · b, n² products in all, in `turned` with b's. Each sum is reduced once, at its end.
+fn multiply_in<S: ParamSet>(turned: &mut [u32], out: &mut [u32], a: &[u32], b: &[u32])
+    requires turned { length turned.old ≡ 2 * S.params.n }
+    requires out { length out.old ≡ S.params.n }
+    requires a { Proper S.params.n S.params.p a.now }
+    requires b { Proper S.params.n S.params.p b.now }
+    ensures value { out.new ≡ product S.params.p a.now b.now }
+    ensures residues { Residues S.params.p out.new }
+{
+    let n = S::degree();
+    turn::<S>(turned, Poly::new(b));
+    for (j, coefficient) in out.iter_mut().enumerate() {
+        let met = Poly::new(&turned[n - 1 - j..2 * n - 1 - j]);
+        *coefficient = (dot::<S>(Poly::new(a), met) % S::modulus() as u64) as u32;
+    }
+}
+
+// The long product.
 pub struct LongProduct;
 
 impl<S: ParamSet> Multiply<S> for LongProduct {
@@ -174,12 +194,12 @@ impl<S: ParamSet> Multiply<S> for LongProduct {
     #[inline(never)]
     fn multiply_words(out: &mut [u32], a: &[u32], b: &[u32]) {
         let n = S::degree();
-        let mut room = [0; 2 * MOST];
-        let turned = &mut room[..2 * n];
-        turn::<S>(turned, Poly::new(b));
-        for (j, coefficient) in out.iter_mut().enumerate() {
-            let met = Poly::new(&turned[n - 1 - j..2 * n - 1 - j]);
-            *coefficient = (dot::<S>(Poly::new(a), met) % S::modulus() as u64) as u32;
+        if n <= FEW {
+            let mut room = [0; 2 * FEW];
+            multiply_in::<S>(&mut room[..2 * n], out, a, b);
+        } else {
+            let mut room = [0; 2 * MOST];
+            multiply_in::<S>(&mut room[..2 * n], out, a, b);
         }
     }
 }

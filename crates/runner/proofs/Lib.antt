@@ -1,3 +1,4 @@
+mod Fronts
 mod Lines
 mod SoFar
 mod Takes

@@ -1,5 +1,5 @@
 -- What one line comes to: the world after it, and the text that is written for it.
-use Rattle.std.specs.Prelude.{◌≡◌, ℕ, ◌<◌, ◌≤◌, ◌⊎◌, List, [], ◌∷◌, ◌++◌, length, Some, None, vec_items, codes, decimal, Option}
+use Rattle.std.specs.Prelude.{◌≡◌, ℕ, ◌<◌, ◌≤◌, ◌⊎◌, List, [], ◌∷◌, ◌++◌, length, Some, None, vec_items, string_bytes, codes, decimal, Option}
 use Rattle.refusal.specs.Told.{area_name}
 use Rattle.refusal.specs.declared.Area.{Area}
 use Rattle.script.specs.Answers.{NoneIs}
@@ -13,6 +13,8 @@ use Rattle.script.specs.declared.unread.Unread.TheVariants.{NotUnderstood, Memor
 use Rattle.answers.specs.Spelling.{spell, word_text}
 use Rattle.answers.specs.Texts.{answer_text, told_text}
 use Rattle.answers.specs.declared.answer.Answer.{Answer}
+use Rattle.runner.specs.declared.telling.Telling.{Telling}
+use Rattle.runner.specs.declared.telling.Telling.TheVariants.{Text, Words}
 use Rattle.world.specs.Cards.{Reshared, with_secret, with_sizes}
 use Rattle.world.specs.State.{Called, FillLine, Fresh, LoadLine, Pokes, Repeated, public, with_a, with_card, with_t, with_till, words_of}
 use Rattle.world.specs.Tills.{Made, params_of}
@@ -21,6 +23,15 @@ use Rattle.world.specs.declared.state.World.{World}
 -- a text as a line: a newline, 10, ends it
 abbrev pub line_of : List ℕ → List ℕ
 line_of text = text ++ (10 ∷ [])
+
+-- an area as a line: its name, and its words
+abbrev pub area_line : Area → List ℕ → List ℕ
+area_line area words = line_of (area_name area ++ spell word_text words)
+
+-- what a line is told, as a text
+abbrev pub telling_text : Telling → List ℕ
+telling_text (Text text) = string_bytes text
+telling_text (Words area words) = area_line area (vec_items words)
 
 -- the last answer of some calls, if there is one
 abbrev pub last_text : Option Answer → World → List ℕ
@@ -42,7 +53,7 @@ Acts w Load w' text = (a : Answer) × LoadLine w a w' × (text ≡ line_of (answ
 Acts w (Work n) w' text = (w' ≡ with_card w (with_sizes w.card n w.card.room)) × (text ≡ [])
 Acts w (Room n) w' text = (w' ≡ with_card w (with_sizes w.card w.card.work n)) × (text ≡ [])
 Acts w (Poke area index value) w' text = (index < length (words_of w area)) × Pokes area index value w w' × (text ≡ [])
-Acts w (Show area) w' text = (w' ≡ w) × (text ≡ line_of (area_name area ++ spell word_text (words_of w area)))
+Acts w (Show area) w' text = (w' ≡ w) × (text ≡ area_line area (words_of w area))
 Acts w (NewTill last) w' text = Made (public w) last w'.till × (w' ≡ with_till w w'.till) × (text ≡ [])
 Acts w (Once call) w' text = (a : Answer) × Called w call a w' × (text ≡ line_of (told_text a (vec_items w'.made)))
 Acts w (Repeat times call) w' text = (done : ℕ) × (last : Option Answer) × Repeated w call times done last w' × (text ≡ calls_text times done last w')

@@ -6,14 +6,16 @@ ghost use Rattle.std.specs.Io.KnownBytes.{Appends};
 ghost use Rattle.runner.specs.Transcript.{Begun, Transcribed};
 
 mod line;
+mod telling;
 
 use line::told_line;
 use std::alloc::Global;
 use std::io;
 use std::io::{BufRead, BufReader, BufWriter, ErrorKind, Read, Write};
+use telling::put_telling;
 
 // Writes a text to its end. By `write`, since of a `write_all` that fails a proof knows nothing.
-fn put<W: Write>(out: &mut W, text: &[u8]) -> io::Result<()>
+pub(crate) fn put<W: Write>(out: &mut W, text: &[u8]) -> io::Result<()>
     ensures all { OnOk result (Appends (W.contents out.old) (W.contents out.new) text.now) }
     ensures front { (count : ℕ) × Appends (W.contents out.old) (W.contents out.new) (take count text.now) }
 {
@@ -40,8 +42,8 @@ pub fn carry_all<R: BufRead + Drop, W: Write>(heap: Global, input: R, out: &mut 
 {
     let mut world = None;
     'lines: for (index, line) in input.split(heap, b'\n').enumerate() {
-        let text = told_line(heap, &mut world, index + 1, line?.as_slice())?;
-        put(out, text.as_bytes())?;
+        let told = told_line(heap, &mut world, index + 1, line?.as_slice())?;
+        put_telling(heap, told, out)?;
     }
     out.flush()
 }

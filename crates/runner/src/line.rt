@@ -1,9 +1,10 @@
 // What one line comes to: a step of the world, and a text.
 ghost use Rattle.std.specs.Prelude.{◌≡◌, IfOk, MatchResult, string_bytes};
 ghost use Rattle.answers.specs.Texts.{told_text};
-ghost use Rattle.runner.specs.Steps.{Acts, ComesTo, Fails, Stays, Takes, calls_text, line_of, not_understood};
+ghost use Rattle.runner.specs.Steps.{Acts, ComesTo, Fails, Stays, Takes, calls_text, line_of, not_understood, telling_text};
 
-use answers::{Answer, Listed, Told};
+use crate::telling::Telling;
+use answers::{Answer, Told};
 use script::{Action, Command, Unread, parse};
 use std::alloc::{AllocError, Global};
 use world::World;
@@ -39,8 +40,8 @@ fn tell_calls(
 }
 
 // Carries a line out that wants a world. One that pokes past the end of its area is not understood.
-fn carry_out(heap: Global, world: &mut World, action: Action) -> Result<String, Unread>
-    ensures { MatchResult result (λ text. Acts world.old action world.new (string_bytes text)) (Fails world.old action world.new) }
+fn carry_out(heap: Global, world: &mut World, action: Action) -> Result<Telling, Unread>
+    ensures { MatchResult result (λ told. Acts world.old action world.new (telling_text told)) (Fails world.old action world.new) }
 {
     match action {
         Action::WordsOfA(words) => world.set_a(words),
@@ -57,41 +58,37 @@ fn carry_out(heap: Global, world: &mut World, action: Action) -> Result<String, 
         }
         Action::Fill { stream, supply } => {
             let answer = world.fill(heap, stream, supply)?;
-            return Ok(format!(in heap; "{answer}\n")?);
+            return Ok(Telling::Text(format!(in heap; "{answer}\n")?));
         }
         Action::Load => {
             let answer = world.load(heap)?;
-            return Ok(format!(in heap; "{answer}\n")?);
+            return Ok(Telling::Text(format!(in heap; "{answer}\n")?));
         }
         Action::Show(area) => {
             let words = world.show(heap, area)?;
-            let listed = Listed {
-                area,
-                words: words.as_slice(),
-            };
-            return Ok(format!(in heap; "{listed}\n")?);
+            return Ok(Telling::Words { area, words });
         }
         Action::Once(call) => {
             let answer = world.call(heap, &call)?;
-            return Ok(tell(heap, world, answer)?);
+            return Ok(Telling::Text(tell(heap, world, answer)?));
         }
         Action::Repeat { times, call } => {
             let (done, last) = world.repeat(heap, times, &call)?;
-            return Ok(tell_calls(heap, world, times, done, last)?);
+            return Ok(Telling::Text(tell_calls(heap, world, times, done, last)?));
         }
     }
-    Ok(String::new(heap))
+    Ok(Telling::Text(String::new(heap)))
 }
 
 // Carries a line out. Before a set is chosen there is no world.
-fn take_line(heap: Global, world: &mut Option<World>, line: &[u8]) -> Result<String, Unread>
-    ensures { MatchResult result (λ text. Takes world.old line.now world.new (string_bytes text)) (Stays world.old line.now world.new) }
+fn take_line(heap: Global, world: &mut Option<World>, line: &[u8]) -> Result<Telling, Unread>
+    ensures { MatchResult result (λ told. Takes world.old line.now world.new (telling_text told)) (Stays world.old line.now world.new) }
 {
     match parse(heap, line)? {
-        Command::Nothing => Ok(String::new(heap)),
+        Command::Nothing => Ok(Telling::Text(String::new(heap))),
         Command::Start(set) => {
             *world = Some(World::new(heap, set)?);
-            Ok(String::new(heap))
+            Ok(Telling::Text(String::new(heap)))
         }
         Command::Act(action) => match world {
             Some(world) => carry_out(heap, world, action),
@@ -100,10 +97,10 @@ fn take_line(heap: Global, world: &mut Option<World>, line: &[u8]) -> Result<Str
     }
 }
 
-fn not_understood(heap: Global, number: usize) -> Result<String, AllocError>
-    ensures { IfOk result (λ text. string_bytes text ≡ not_understood number) }
+fn not_understood(heap: Global, number: usize) -> Result<Telling, AllocError>
+    ensures { IfOk result (λ told. telling_text told ≡ not_understood number) }
 {
-    format!(in heap; "line {number} not understood\n")
+    Ok(Telling::Text(format!(in heap; "line {number} not understood\n")?))
 }
 
 // The same, and a line that is not understood is told by its number.
@@ -112,11 +109,11 @@ pub(crate) fn told_line(
     world: &mut Option<World>,
     number: usize,
     line: &[u8],
-) -> Result<String, AllocError>
-    ensures { IfOk result (λ text. ComesTo number world.old line.now world.new (string_bytes text)) }
+) -> Result<Telling, AllocError>
+    ensures { IfOk result (λ told. ComesTo number world.old line.now world.new (telling_text told)) }
 {
     match take_line(heap, world, line) {
-        Ok(text) => Ok(text),
+        Ok(told) => Ok(told),
         Err(Unread::NotUnderstood) => not_understood(heap, number),
         Err(Unread::Memory) => Err(AllocError),
     }

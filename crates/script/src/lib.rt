@@ -9,6 +9,8 @@ mod stream;
 mod unread;
 
 pub use command::{Action, Call, Command, SetName, Shown, Supply};
+pub use decimal::{Entry, number, numbers};
+pub use hex::{hex_32, hex_bytes};
 pub use line::parse;
 pub use stream::Stream;
 pub use unread::Unread;

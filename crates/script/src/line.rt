@@ -93,9 +93,11 @@ fn generator(heap: Global, text: &str) -> Result<Supply, Unread>
         ((name : List ℕ) → NoneIs (Fills name (name ++ (codes " generator " ++ text.now)))) result }
 {
     let (seed, count) = parted(text)?;
+    // The number first: where it is none, no room is asked for.
+    let count = u64::read(count)?;
     Ok(Supply::Generator {
         seed: hex_32(heap, seed.as_bytes())?,
-        count: u64::read(count)?,
+        count,
     })
 }
 
@@ -144,9 +146,11 @@ fn sign(heap: Global, text: &str) -> Result<Call, Unread>
     ensures { Finds (Calls (codes "sign " ++ text.now)) result }
 {
     let (digest, tries) = parted(text)?;
+    // The number first, as in `generator`.
+    let tries = u32::read(tries)?;
     Ok(Call::Sign {
         digest: hex_32(heap, digest.as_bytes())?,
-        tries: u32::read(tries)?,
+        tries,
     })
 }
 

@@ -51,6 +51,20 @@ impl World {
         })
     }
 
+    // The words of a, which begin the public area.
+    pub fn a(&self) -> &[u32]
+        ensures { result.now ≡ self.now.a.items }
+    {
+        self.a.as_slice()
+    }
+
+    // The words of t, which end it.
+    pub fn t(&self) -> &[u32]
+        ensures { result.now ≡ self.now.t.items }
+    {
+        self.t.as_slice()
+    }
+
     // A copy of the public area, in one piece.
     fn public(&self, heap: Global) -> Result<Vec<u32>, AllocError>
         ensures { IfOk result (λ v. v.items ≡ public self.now) }
@@ -137,7 +151,7 @@ impl World {
     }
 
     // Writes a word of the public area, or says that it has no such word: a `bool`, which is promised to callers.
-    fn poke_public(&mut self, index: usize, value: u32) -> bool
+    pub fn poke_public(&mut self, index: usize, value: u32) -> bool
         ensures within { result ≡ nat_lt index (length (public self.old)) }
         ensures public { public self.new ≡ set (public self.old) index value }
         ensures rest { (self.new.set ≡ self.old.set) × ((self.new.till ≡ self.old.till) × (self.new.made ≡ self.old.made)) }

@@ -1,8 +1,7 @@
-use Rattle.std.proofs.Common.{ℕ, ◌+◌, List, take, rules, sym, ap, ◌∙◌, subst, string_bytes}
-use Rattle.std.specs.Io.KnownBytes.{Appends}
+use Rattle.std.proofs.Common.{ℕ, ◌+◌, rules, sym, ap, ◌∙◌, subst}
 use Rattle.std.specs.Io.Iter.{split_byte, split_known_bytes}
 use Rattle.std.specs.Iterator.Adapters.{enumerate_source, enumerate_count}
-use Rattle.runner.specs.Steps.{ComesTo}
+use Rattle.runner.specs.Steps.{ComesTo, telling_text}
 use Rattle.runner.proofs.SoFar.{ReadsLine, begin, go_on, finish, stop, stop_within, kept, if_ok}
 use Rattle.runner.proofs.carry_all.Goals as goal
 
@@ -26,33 +25,31 @@ lines-preserved g c =
     let left' = split_known_bytes g.R.Read.remaining (enumerate_source c.next.new.self) in
     let line = c.as_slice.result.now in
     let read : ReadsLine left left' line = subst (ReadsLine left left') (sym c.as_slice.ensures.value) (rw (c.in_ok-line.was, inv.newline) at steps.0.2) in
-    let comes = subst (λ (n : ℕ). ComesTo (n + 1) c.lines.world line c.told_line.new.world (string_bytes c.in_ok-text.text)) steps.1 c.in_ok-text.ensures in
-    let out = subst (Appends (g.W.Write.contents c.lines.out) (g.W.Write.contents c.put.new.out)) c.as_bytes.ensures.value c.in_ok-put.ensures.all in
+    let comes = subst (λ (n : ℕ). ComesTo (n + 1) c.lines.world line c.told_line.new.world (telling_text c.in_ok-told.told)) steps.1 c.in_ok-told.ensures in
     record {
       can = search rules;
       ends = search rules;
       newline = steps.0.1 ∙ inv.newline;
-      reads = rw steps.2 (go_on (g.R.Read.remaining c.args.input) left left' (enumerate_count c.lines.index-iterator) c.lines.world c.told_line.new.world (g.W.Write.contents c.args.out.now) (g.W.Write.contents c.lines.out) (g.W.Write.contents c.put.new.out) line (string_bytes c.in_ok-text.text) inv.reads read comes out);
+      reads = rw steps.2 (go_on (g.R.Read.remaining c.args.input) left left' (enumerate_count c.lines.index-iterator) c.lines.world c.told_line.new.world (g.W.Write.contents c.args.out.now) (g.W.Write.contents c.lines.out) (g.W.Write.contents c.put_telling.new.out) line (telling_text c.in_ok-told.told) inv.reads read comes c.in_ok-put_telling.ensures.all);
     }
 
-pub returns-in_err-put-clause-front : goal.returns-in_err-put-clause-front
-returns-in_err-put-clause-front g c =
+pub returns-in_err-put_telling-clause-front : goal.returns-in_err-put_telling-clause-front
+returns-in_err-put_telling-clause-front g c =
     let inv = c.lines.invariant in
     let steps = c.in-Some.ensures.steps in
     let left = split_known_bytes g.R.Read.remaining (enumerate_source c.lines.index-iterator) in
     let left' = split_known_bytes g.R.Read.remaining (enumerate_source c.next.new.self) in
     let line = c.as_slice.result.now in
     let read : ReadsLine left left' line = subst (ReadsLine left left') (sym c.as_slice.ensures.value) (rw (c.in_ok-line.was, inv.newline) at steps.0.2) in
-    let comes = subst (λ (n : ℕ). ComesTo (n + 1) c.lines.world line c.told_line.new.world (string_bytes c.in_ok-text.text)) steps.1 c.in_ok-text.ensures in
-    let front = c.in_err-put.ensures.front in
-    let out = subst (λ (l : List ℕ). Appends (g.W.Write.contents c.lines.out) (g.W.Write.contents c.put.new.out) (take front.0 l)) c.as_bytes.ensures.value front.1 in
-    stop_within (g.R.Read.remaining c.args.input) left left' (enumerate_count c.lines.index-iterator) front.0 c.lines.world c.told_line.new.world (g.W.Write.contents c.args.out.now) (g.W.Write.contents c.lines.out) (g.W.Write.contents c.put.new.out) line (string_bytes c.in_ok-text.text) inv.reads read comes out
+    let comes = subst (λ (n : ℕ). ComesTo (n + 1) c.lines.world line c.told_line.new.world (telling_text c.in_ok-told.told)) steps.1 c.in_ok-told.ensures in
+    let front = c.in_err-put_telling.ensures.front in
+    stop_within (g.R.Read.remaining c.args.input) left left' (enumerate_count c.lines.index-iterator) front.0 c.lines.world c.told_line.new.world (g.W.Write.contents c.args.out.now) (g.W.Write.contents c.lines.out) (g.W.Write.contents c.put_telling.new.out) line (telling_text c.in_ok-told.told) inv.reads read comes front.1
 
 pub returns-in_err-line-clause-front : goal.returns-in_err-line-clause-front
 returns-in_err-line-clause-front g c = stop (g.R.Read.remaining c.args.input) _ _ _ (g.W.Write.contents c.args.out.now) _ _ c.lines.invariant.reads (kept (g.W.Write.contents c.lines.out))
 
-pub returns-in_err-text-clause-front : goal.returns-in_err-text-clause-front
-returns-in_err-text-clause-front g c = stop (g.R.Read.remaining c.args.input) _ _ _ (g.W.Write.contents c.args.out.now) _ _ c.lines.invariant.reads (kept (g.W.Write.contents c.lines.out))
+pub returns-in_err-told-clause-front : goal.returns-in_err-told-clause-front
+returns-in_err-told-clause-front g c = stop (g.R.Read.remaining c.args.input) _ _ _ (g.W.Write.contents c.args.out.now) _ _ c.lines.invariant.reads (kept (g.W.Write.contents c.lines.out))
 
 pub returns-clause-front : goal.returns-clause-front
 returns-clause-front g c = stop (g.R.Read.remaining c.args.input) _ _ _ (g.W.Write.contents c.args.out.now) _ _ c.lines.invariant.reads c.flush.ensures.bytes

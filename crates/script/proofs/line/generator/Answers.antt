@@ -26,11 +26,11 @@ returns-in_err-hex_32 c =
     (err_from_is_err_and c.from_residual-in_err-hex_32.result c.from_residual-in_err-hex_32.ensures.1)
     (λ h. no_generator text c.in_ok-seed.seed.now _ c.in_ok-seed.ensures.0 c.in_ok-seed.ensures.1 (λ bytes n l s d. h bytes l (subst (λ (t : List ℕ). Spells t bytes) (sym c.as_bytes.ensures.value) s))) c.in_err-hex_32.ensures
 
-pub returns-in_err-read : goal.returns-in_err-read
-returns-in_err-read c =
+pub returns-in_err-count : goal.returns-in_err-count
+returns-in_err-count c =
     let text = c.args.text.now in
     let fills : Supply → Type 0 = λ s. (name : List ℕ) → Fills name (name ++ (codes " generator " ++ text)) s in
     let none : Type 0 = (name : List ℕ) → NoneIs (Fills name (name ++ (codes " generator " ++ text))) in
-    refused_judged fills (NoneIs (Number 18446744073709551615 c.in_ok-seed.count.now)) none c.in_err-read.field-0.0 c.from_residual-in_err-read.result
-    (err_from_is_err_and c.from_residual-in_err-read.result c.from_residual-in_err-read.ensures.1)
-    (λ h. no_generator text c.in_ok-seed.seed.now _ c.in_ok-seed.ensures.0 c.in_ok-seed.ensures.1 (λ bytes n l s d. h n d)) c.in_err-read.ensures
+    refused_judged fills (NoneIs (Number 18446744073709551615 c.in_ok-seed.count.now)) none c.in_err-count.field-0.0 c.from_residual-in_err-count.result
+    (err_from_is_err_and c.from_residual-in_err-count.result c.from_residual-in_err-count.ensures.1)
+    (λ h. no_generator text c.in_ok-seed.seed.now _ c.in_ok-seed.ensures.0 c.in_ok-seed.ensures.1 (λ bytes n l s d. h n d)) c.in_err-count.ensures

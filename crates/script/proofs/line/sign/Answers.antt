@@ -24,11 +24,11 @@ returns-in_err-hex_32 c =
     (err_from_is_err_and c.from_residual-in_err-hex_32.result c.from_residual-in_err-hex_32.ensures.1)
     (λ none. no_sign text digest _ c.in_ok-digest.ensures.0 c.in_ok-digest.ensures.1 (λ bytes n l s h. none bytes l (subst (λ (t : List ℕ). Spells t bytes) (sym c.as_bytes.ensures.value) s))) c.in_err-hex_32.ensures
 
-pub returns-in_err-read : goal.returns-in_err-read
-returns-in_err-read c =
+pub returns-in_err-tries : goal.returns-in_err-tries
+returns-in_err-tries c =
     let text = c.args.text.now in
     let digest = c.in_ok-digest.digest.now in
     let line = codes "sign " ++ text in
-    refused_judged (Calls line) (NoneIs (Number 4294967295 c.in_ok-digest.tries.now)) (NoneIs (Calls line)) c.in_err-read.field-0.0 c.from_residual-in_err-read.result
-    (err_from_is_err_and c.from_residual-in_err-read.result c.from_residual-in_err-read.ensures.1)
-    (λ none. no_sign text digest _ c.in_ok-digest.ensures.0 c.in_ok-digest.ensures.1 (λ bytes n l s h. none n h)) c.in_err-read.ensures
+    refused_judged (Calls line) (NoneIs (Number 4294967295 c.in_ok-digest.tries.now)) (NoneIs (Calls line)) c.in_err-tries.field-0.0 c.from_residual-in_err-tries.result
+    (err_from_is_err_and c.from_residual-in_err-tries.result c.from_residual-in_err-tries.ensures.1)
+    (λ none. no_sign text digest _ c.in_ok-digest.ensures.0 c.in_ok-digest.ensures.1 (λ bytes n l s h. none n h)) c.in_err-tries.ensures

@@ -5,7 +5,7 @@ use Rattle.ring.specs.Long.{Turned, dot}
 use Rattle.ring.specs.Ring.{product}
 use Rattle.ring.proofs.Algebra.{length-product, product-residues}
 use Rattle.ring.proofs.Loops.{met-long, met-place, turned-residues, coefficient-at}
-use Rattle.ring.proofs.LongProductMultiply.multiply_words.Goals as goal
+use Rattle.ring.proofs.multiply_in.Goals as goal
 
 pub new-met-requires : goal.new-met-requires
 new-met-requires g c =
