@@ -63,8 +63,9 @@ impl Feed {
 }
 
 // The word that comes next, through each check from the lowest up.
-// Out of line, so that a draw with no check is short enough to stand at each call.
-#[cold]
+// Out of line, so that a draw with no check is short enough to stand at each call; and not cold, since a draw through many checks
+// is nothing but this.
+#[inline(never)]
 #[cycle(draw)]
 fn draw_checked(watch: &mut Watch, below: &mut Feed) -> Result<u32, Mark>
     ensures { Drawn result (health_flow watch.old (feed_flow below.old)) (health_flow watch.new (feed_flow below.new)) }

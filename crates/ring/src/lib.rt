@@ -166,9 +166,6 @@ fn dot<S: ParamSet>(a: Poly<'_, S>, b: Poly<'_, S>) -> u64
     sum
 }
 
-// A set with no more coefficients takes its room from a small array: to clear one for MOST would take longer than its product.
-const FEW: usize = 16;
-
 // Each coefficient of a · b, n² products in all, in `turned` with b's. Each sum is reduced once, at its end.
 fn multiply_in<S: ParamSet>(turned: &mut [u32], out: &mut [u32], a: &[u32], b: &[u32])
     requires turned { length turned.old ≡ 2 * S.params.n }
@@ -186,20 +183,33 @@ fn multiply_in<S: ParamSet>(turned: &mut [u32], out: &mut [u32], a: &[u32], b: &
     }
 }
 
+// With room for the largest set. Never inlined: within a long function its inner loop would stand at any place, and run slower for it.
+#[inline(never)]
+fn multiply_large<S: ParamSet>(out: &mut [u32], a: &[u32], b: &[u32])
+    requires out { length out.old ≡ S.params.n }
+    requires a { Proper S.params.n S.params.p a.now }
+    requires b { Proper S.params.n S.params.p b.now }
+    ensures value { out.new ≡ product S.params.p a.now b.now }
+    ensures residues { Residues S.params.p out.new }
+{
+    let mut room = [0; 2 * MOST];
+    multiply_in::<S>(&mut room[..2 * S::degree()], out, a, b);
+}
+
+// A set with no more coefficients has a small room: to clear one for MOST would take longer than its product.
+const FEW: usize = 16;
+
 // The long product.
 pub struct LongProduct;
 
 impl<S: ParamSet> Multiply<S> for LongProduct {
-    // Never inlined: within a long function its inner loop would stand at any place, and run slower for it.
-    #[inline(never)]
+    #[inline]
     fn multiply_words(out: &mut [u32], a: &[u32], b: &[u32]) {
-        let n = S::degree();
-        if n <= FEW {
+        if S::degree() <= FEW {
             let mut room = [0; 2 * FEW];
-            multiply_in::<S>(&mut room[..2 * n], out, a, b);
+            multiply_in::<S>(&mut room[..2 * S::degree()], out, a, b);
         } else {
-            let mut room = [0; 2 * MOST];
-            multiply_in::<S>(&mut room[..2 * n], out, a, b);
+            multiply_large::<S>(out, a, b);
         }
     }
 }

@@ -12,13 +12,13 @@ use Rattle.runner.specs.Steps.{Acts, ComesTo, Fails, Misses, Stays, Takes, not_u
 
 -- a line that acts on a world
 pub acted : (was next : World) (line : List ℕ) (action : Action) → Says line (Act action)
-    → (r : Result Telling Unread) → MatchResult r (λ told. Acts was action next (telling_text told)) (Fails was action next)
-    → MatchResult r (λ told. Takes (Some was) line (Some next) (telling_text told)) (Stays (Some was) line (Some next))
-acted was next line action says (Ok told) h = (Act action, says, (next, h, refl))
-acted was next line action says (Err NotUnderstood) h = inr (action, next, says, h, refl)
-acted was next line action says (Err Memory) h = tt
+    → (written : List ℕ) (r : Result Telling Unread) → MatchResult r (λ told. Acts was action next (telling_text told written)) (Fails was action next)
+    → MatchResult r (λ told. Takes (Some was) line (Some next) (telling_text told written)) (Stays (Some was) line (Some next))
+acted was next line action says written (Ok told) h = (Act action, says, (next, h, refl))
+acted was next line action says written (Err NotUnderstood) h = inr (action, next, says, h, refl)
+acted was next line action says written (Err Memory) h = tt
 
 -- a line that is not understood
-pub untold : (was next : Option World) (line : List ℕ) (number : ℕ) → Misses was line next → (r : Result Telling AllocError) → IfOk r (λ told. telling_text told ≡ not_understood number) → IfOk r (λ told. ComesTo number was line next (telling_text told))
-untold was next line number missed (Ok told) h = inr (missed, h)
-untold was next line number missed (Err e) h = tt
+pub untold : (was next : Option World) (line : List ℕ) (number : ℕ) → Misses was line next → (written : List ℕ) (r : Result Telling AllocError) → IfOk r (λ told. telling_text told written ≡ not_understood number) → IfOk r (λ told. ComesTo number was line next (telling_text told written))
+untold was next line number missed written (Ok told) h = inr (missed, h)
+untold was next line number missed written (Err e) h = tt

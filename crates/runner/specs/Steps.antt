@@ -1,5 +1,5 @@
 -- What one line comes to: the world after it, and the text that is written for it.
-use Rattle.std.specs.Prelude.{◌≡◌, ℕ, ◌<◌, ◌≤◌, ◌⊎◌, List, [], ◌∷◌, ◌++◌, length, Some, None, vec_items, string_bytes, codes, decimal, Option}
+use Rattle.std.specs.Prelude.{◌≡◌, ℕ, ◌<◌, ◌≤◌, ◌⊎◌, List, [], ◌∷◌, ◌++◌, length, Some, None, vec_items, codes, decimal, Option}
 use Rattle.refusal.specs.Told.{area_name}
 use Rattle.refusal.specs.declared.Area.{Area}
 use Rattle.script.specs.Answers.{NoneIs}
@@ -28,10 +28,10 @@ line_of text = text ++ (10 ∷ [])
 abbrev pub area_line : Area → List ℕ → List ℕ
 area_line area words = line_of (area_name area ++ spell word_text words)
 
--- what a line is told, as a text
-abbrev pub telling_text : Telling → List ℕ
-telling_text (Text text) = string_bytes text
-telling_text (Words area words) = area_line area (vec_items words)
+-- what a line is told, as a text: the one that was written for it, or an area
+abbrev pub telling_text : Telling → List ℕ → List ℕ
+telling_text Text written = written
+telling_text (Words area words) written = area_line area (vec_items words)
 
 -- the last answer of some calls, if there is one
 abbrev pub last_text : Option Answer → World → List ℕ

@@ -14,6 +14,9 @@ use std::io;
 use std::io::{BufRead, BufReader, BufWriter, ErrorKind, Read, Write};
 use telling::put_telling;
 
+// Longer than any answer: a record of 1,024 coefficients would be 8,784 hexadecimal digits.
+const ROOM: usize = 16384;
+
 // Writes a text to its end. By `write`, since of a `write_all` that fails a proof knows nothing.
 pub(crate) fn put<W: Write>(out: &mut W, text: &[u8]) -> io::Result<()>
     ensures all { OnOk result (Appends (W.contents out.old) (W.contents out.new) text.now) }
@@ -41,9 +44,11 @@ pub fn carry_all<R: BufRead + Drop, W: Write>(heap: Global, input: R, out: &mut 
     ensures front { IfSome (R.Read.remaining input) (λ bytes. Begun bytes (W.contents out.old) (W.contents out.new)) }
 {
     let mut world = None;
+    // Room for the answer to any line, so that a line that was carried out is told whatever memory is left.
+    let mut text = String::with_capacity(heap, ROOM)?;
     'lines: for (index, line) in input.split(heap, b'\n').enumerate() {
-        let told = told_line(heap, &mut world, index + 1, line?.as_slice())?;
-        put_telling(heap, told, out)?;
+        let told = told_line(heap, &mut world, index + 1, line?.as_slice(), &mut text)?;
+        put_telling(heap, told, text.as_bytes(), out)?;
     }
     out.flush()
 }

@@ -1,5 +1,5 @@
 // What one line comes to: a step of the world, and a text.
-ghost use Rattle.std.specs.Prelude.{◌≡◌, IfOk, MatchResult, string_bytes};
+ghost use Rattle.std.specs.Prelude.{◌≡◌, [], IfOk, MatchResult, OnOk, string_bytes};
 ghost use Rattle.answers.specs.Texts.{told_text};
 ghost use Rattle.runner.specs.Steps.{Acts, ComesTo, Fails, Stays, Takes, calls_text, line_of, not_understood, telling_text};
 
@@ -9,39 +9,50 @@ use script::{Action, Command, Unread, parse};
 use std::alloc::{AllocError, Global};
 use world::World;
 
-// What a call answered, with the record that it made.
-fn tell(heap: Global, world: &World, answer: Answer) -> Result<String, AllocError>
-    ensures { IfOk result (λ text. string_bytes text ≡ line_of (told_text answer world.now.made.items)) }
+// Writes what a call answered, with the record that it made.
+fn tell(world: &World, answer: Answer, text: &mut String) -> Result<(), AllocError>
+    requires { string_bytes text.old ≡ [] }
+    ensures { OnOk result (string_bytes text.new ≡ line_of (told_text answer world.now.made.items)) }
 {
     let told = Told {
         answer,
         made: world.made(),
     };
-    format!(in heap; "{told}\n")
+    write!(text, "{told}\n")
 }
 
-// How many of some calls did what they were asked, and what the last one answered.
+// Writes how many of some calls did what they were asked, and what the last one answered.
 fn tell_calls(
-    heap: Global,
     world: &World,
     times: u32,
     done: u32,
     last: Option<Answer>,
-) -> Result<String, AllocError>
-    ensures { IfOk result (λ text. string_bytes text ≡ calls_text times done last world.now) }
+    text: &mut String,
+) -> Result<(), AllocError>
+    requires { string_bytes text.old ≡ [] }
+    ensures { OnOk result (string_bytes text.new ≡ calls_text times done last world.now) }
 {
     match last {
-        None => format!(in heap; "repeated {times} ok {done}\n"),
+        None => write!(text, "repeated {times} ok {done}\n"),
         Some(answer) => {
-            let told = tell(heap, world, answer)?;
-            format!(in heap; "repeated {times} ok {done}\n{told}")
+            let told = Told {
+                answer,
+                made: world.made(),
+            };
+            write!(text, "repeated {times} ok {done}\n{told}\n")
         }
     }
 }
 
 // Carries a line out that wants a world. One that pokes past the end of its area is not understood.
-fn carry_out(heap: Global, world: &mut World, action: Action) -> Result<Telling, Unread>
-    ensures { MatchResult result (λ told. Acts world.old action world.new (telling_text told)) (Fails world.old action world.new) }
+fn carry_out(
+    heap: Global,
+    world: &mut World,
+    action: Action,
+    text: &mut String,
+) -> Result<Telling, Unread>
+    requires { string_bytes text.old ≡ [] }
+    ensures { MatchResult result (λ told. Acts world.old action world.new (telling_text told (string_bytes text.new))) (Fails world.old action world.new) }
 {
     match action {
         Action::WordsOfA(words) => world.set_a(words),
@@ -58,11 +69,13 @@ fn carry_out(heap: Global, world: &mut World, action: Action) -> Result<Telling,
         }
         Action::Fill { stream, supply } => {
             let answer = world.fill(heap, stream, supply)?;
-            return Ok(Telling::Text(format!(in heap; "{answer}\n")?));
+            write!(text, "{answer}\n")?;
+            return Ok(Telling::Text);
         }
         Action::Load => {
             let answer = world.load(heap)?;
-            return Ok(Telling::Text(format!(in heap; "{answer}\n")?));
+            write!(text, "{answer}\n")?;
+            return Ok(Telling::Text);
         }
         Action::Show(area) => {
             let words = world.show(heap, area)?;
@@ -70,51 +83,66 @@ fn carry_out(heap: Global, world: &mut World, action: Action) -> Result<Telling,
         }
         Action::Once(call) => {
             let answer = world.call(heap, &call)?;
-            return Ok(Telling::Text(tell(heap, world, answer)?));
+            tell(world, answer, text)?;
+            return Ok(Telling::Text);
         }
         Action::Repeat { times, call } => {
             let (done, last) = world.repeat(heap, times, &call)?;
-            return Ok(Telling::Text(tell_calls(heap, world, times, done, last)?));
+            tell_calls(world, times, done, last, text)?;
+            return Ok(Telling::Text);
         }
     }
-    Ok(Telling::Text(String::new(heap)))
+    Ok(Telling::Text)
 }
 
 // Carries a line out. Before a set is chosen there is no world.
-fn take_line(heap: Global, world: &mut Option<World>, line: &[u8]) -> Result<Telling, Unread>
-    ensures { MatchResult result (λ told. Takes world.old line.now world.new (telling_text told)) (Stays world.old line.now world.new) }
+fn take_line(
+    heap: Global,
+    world: &mut Option<World>,
+    line: &[u8],
+    text: &mut String,
+) -> Result<Telling, Unread>
+    requires { string_bytes text.old ≡ [] }
+    ensures { MatchResult result (λ told. Takes world.old line.now world.new (telling_text told (string_bytes text.new))) (Stays world.old line.now world.new) }
 {
     match parse(heap, line)? {
-        Command::Nothing => Ok(Telling::Text(String::new(heap))),
+        Command::Nothing => Ok(Telling::Text),
         Command::Start(set) => {
             *world = Some(World::new(heap, set)?);
-            Ok(Telling::Text(String::new(heap)))
+            Ok(Telling::Text)
         }
         Command::Act(action) => match world {
-            Some(world) => carry_out(heap, world, action),
+            Some(world) => carry_out(heap, world, action, text),
             None => Err(Unread::NotUnderstood),
         },
     }
 }
 
-fn not_understood(heap: Global, number: usize) -> Result<Telling, AllocError>
-    ensures { IfOk result (λ told. telling_text told ≡ not_understood number) }
+fn not_understood(number: usize, text: &mut String) -> Result<Telling, AllocError>
+    requires { string_bytes text.old ≡ [] }
+    ensures { IfOk result (λ told. telling_text told (string_bytes text.new) ≡ not_understood number) }
 {
-    Ok(Telling::Text(format!(in heap; "line {number} not understood\n")?))
+    write!(text, "line {number} not understood\n")?;
+    Ok(Telling::Text)
 }
 
-// The same, and a line that is not understood is told by its number.
+// The same, and a line that is not understood is told by its number. The text stands in a room that one line leaves to the next.
 pub(crate) fn told_line(
     heap: Global,
     world: &mut Option<World>,
     number: usize,
     line: &[u8],
+    text: &mut String,
 ) -> Result<Telling, AllocError>
-    ensures { IfOk result (λ told. ComesTo number world.old line.now world.new (telling_text told)) }
+    ensures { IfOk result (λ told. ComesTo number world.old line.now world.new (telling_text told (string_bytes text.new))) }
 {
-    match take_line(heap, world, line) {
+    text.clear();
+    match take_line(heap, world, line, text) {
         Ok(told) => Ok(told),
-        Err(Unread::NotUnderstood) => not_understood(heap, number),
+        Err(Unread::NotUnderstood) => {
+            text.clear();
+            not_understood(number, text)
+        }
         Err(Unread::Memory) => Err(AllocError),
     }
 }

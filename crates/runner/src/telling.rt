@@ -10,10 +10,10 @@ use std::alloc::Global;
 use std::io;
 use std::io::Write;
 
-// What a line is told: a text, or an area with its words.
+// What a line is told: the text that was written for it, or an area with its words.
 #[derive(Drop)]
 pub(crate) enum Telling {
-    Text(String),
+    Text,
     Words { area: Area, words: Vec<u32> },
 }
 
@@ -42,13 +42,18 @@ fn put_area<W: Write>(heap: Global, area: Area, words: &[u32], out: &mut W) -> i
     put(out, b"\n")
 }
 
-// Writes what a line is told. Where it fails, a front of that was written.
-pub(crate) fn put_telling<W: Write>(heap: Global, telling: Telling, out: &mut W) -> io::Result<()>
-    ensures all { OnOk result (Appends (W.contents out.old) (W.contents out.new) (telling_text telling)) }
-    ensures front { (count : ℕ) × Appends (W.contents out.old) (W.contents out.new) (take count (telling_text telling)) }
+// Writes what a line is told, with the text that stands ready. Where it fails, a front of that was written.
+pub(crate) fn put_telling<W: Write>(
+    heap: Global,
+    telling: Telling,
+    text: &[u8],
+    out: &mut W,
+) -> io::Result<()>
+    ensures all { OnOk result (Appends (W.contents out.old) (W.contents out.new) (telling_text telling text.now)) }
+    ensures front { (count : ℕ) × Appends (W.contents out.old) (W.contents out.new) (take count (telling_text telling text.now)) }
 {
     match telling {
-        Telling::Text(text) => put(out, text.as_bytes()),
+        Telling::Text => put(out, text),
         Telling::Words { area, words } => put_area(heap, area, words.as_slice(), out),
     }
 }
