@@ -1,5 +1,5 @@
 -- What was written of a text whose parts are written one behind another.
-use Rattle.std.proofs.Common.{◌≡◌, ℕ, ◌+◌, ◌<◌, ◌≤◌, List, [], ◌∷◌, ◌++◌, length, get_or, min, take, drop, Option, refl, sym, ap, ◌∙◌, subst, arith, append_assoc}
+use Rattle.std.proofs.Common.{◌≡◌, ℕ, ◌+◌, ◌<◌, List, [], ◌∷◌, ◌++◌, length, get_or, min, take, drop, Option, refl, sym, ap, ◌∙◌, subst, arith, append_assoc}
 use Rattle.std.specs.Io.KnownBytes.{Appends}
 use Rattle.std.proofs.Math.Seq.{take-append-add}
 use Rattle.std.proofs.lemmas.List.{take-append-drop, take_all, take-append-le, take_min}
@@ -36,15 +36,43 @@ spell_join text (x ∷ xs) ys = ap (λ (l : List ℕ). text x ++ l) (spell_join 
 spell_parts : (text : ℕ → List ℕ) (xs : List ℕ) (i : ℕ) → spell text xs ≡ spell text (take i xs) ++ spell text (drop i xs)
 spell_parts text xs i = sym (ap (spell text) (take-append-drop i xs)) ∙ spell_join text (take i xs) (drop i xs)
 
--- a front of some words is one of all
-pub of_words : (a b : Option (List ℕ)) (xs : List ℕ) (i : ℕ) → Front a b (spell word_text (take i xs)) → Front a b (spell word_text xs)
-of_words a b xs i front = subst (Front a b) (sym (spell_parts word_text xs i)) (in_first a b (spell word_text (take i xs)) (spell word_text (drop i xs)) front)
+-- what an area's line comes to after some of its words
+abbrev pub so_far : List ℕ → List ℕ → ℕ → List ℕ
+so_far name words i = name ++ spell word_text (take i words)
 
--- one word more, whole or in part
-pub next_word : (a b c : Option (List ℕ)) (xs one : List ℕ) (i : ℕ) → i < length xs → one ≡ word_text (get_or xs i 0) → Appends a b (spell word_text (take i xs)) → Appends b c one → Appends a c (spell word_text (take (i + 1) xs))
-next_word a b c xs one i below is so_far next =
-    subst (Appends a c) (ap (λ (l : List ℕ). spell word_text (take i xs) ++ l) is ∙ sym (spell_more word_text xs i below)) (appends_both a b c (spell word_text (take i xs)) one so_far next)
+-- some of that was written, and the rest stands ready
+abbrev pub Ready : Option (List ℕ) → Option (List ℕ) → (ready text : List ℕ) → Type 0
+Ready old new ready text = (done : List ℕ) × Appends old new done × (done ++ ready ≡ text)
 
-pub within_word : (a b c : Option (List ℕ)) (xs one : List ℕ) (i : ℕ) → i < length xs → one ≡ word_text (get_or xs i 0) → Appends a b (spell word_text (take i xs)) → Front b c one → Front a c (spell word_text xs)
-within_word a b c xs one i below is so_far next =
-    of_words a c xs (i + 1) (subst (Front a c) (ap (λ (l : List ℕ). spell word_text (take i xs) ++ l) is ∙ sym (spell_more word_text xs i below)) (in_second a b c (spell word_text (take i xs)) one so_far next))
+pub ready_none : (a : Option (List ℕ)) (ready text : List ℕ) → ready ≡ text → Ready a a ready text
+ready_none a ready text e = ([], none_yet a, e)
+
+-- a part of what stands ready is written
+pub ready_moved : (a b c : Option (List ℕ)) (ready ready' text : List ℕ) → Ready a b ready text → (moved : List ℕ) × Appends b c moved × (moved ++ ready' ≡ ready) → Ready a c ready' text
+ready_moved a b c ready ready' text r m =
+    (r.0 ++ m.0, appends_both a b c r.0 m.0 r.1 m.1, append_assoc r.0 m.0 ready' ∙ ap (λ (l : List ℕ). r.0 ++ l) m.2 ∙ r.2)
+
+-- more stands ready
+pub ready_more : (a b : Option (List ℕ)) (ready ready' text more : List ℕ) → ready' ≡ ready ++ more → Ready a b ready text → Ready a b ready' (text ++ more)
+ready_more a b ready ready' text more is r =
+    (r.0, r.1, ap (λ (l : List ℕ). r.0 ++ l) is ∙ sym (append_assoc r.0 ready more) ∙ ap (λ (l : List ℕ). l ++ more) r.2)
+
+-- a front of what stands ready is written
+pub ready_front : (a b c : Option (List ℕ)) (ready text : List ℕ) → Ready a b ready text → Front b c ready → Front a c text
+ready_front a b c ready text r front = subst (Front a c) r.2 (in_second a b c r.0 ready r.1 front)
+
+-- all of it
+pub ready_all : (a b c : Option (List ℕ)) (ready text : List ℕ) → Ready a b ready text → Appends b c ready → Appends a c text
+ready_all a b c ready text r p = subst (Appends a c) r.2 (appends_both a b c r.0 ready r.1 p)
+
+-- one word more
+pub one_word : (name words : List ℕ) (i : ℕ) → i < length words → so_far name words i ++ word_text (get_or words i 0) ≡ so_far name words (i + 1)
+one_word name words i below =
+    append_assoc name (spell word_text (take i words)) (word_text (get_or words i 0)) ∙ ap (λ (l : List ℕ). name ++ l) (sym (spell_more word_text words i below))
+
+-- a front of a line after some words is one of the whole line
+pub of_line : (a b : Option (List ℕ)) (name words : List ℕ) (i : ℕ) → Front a b (so_far name words i) → Front a b ((name ++ spell word_text words) ++ (10 ∷ []))
+of_line a b name words i front =
+    let parts : name ++ spell word_text words ≡ so_far name words i ++ spell word_text (drop i words) =
+    ap (λ (l : List ℕ). name ++ l) (spell_parts word_text words i) ∙ sym (append_assoc name (spell word_text (take i words)) (spell word_text (drop i words))) in
+    in_first a b (name ++ spell word_text words) (10 ∷ []) (subst (Front a b) (sym parts) (in_first a b (so_far name words i) (spell word_text (drop i words)) front))

@@ -48,7 +48,7 @@ pub fn carry_all<R: BufRead + Drop, W: Write>(heap: Global, input: R, out: &mut 
     let mut text = String::with_capacity(heap, ROOM)?;
     'lines: for (index, line) in input.split(heap, b'\n').enumerate() {
         let told = told_line(heap, &mut world, index + 1, line?.as_slice(), &mut text)?;
-        put_telling(heap, told, text.as_bytes(), out)?;
+        put_telling(told, &mut text, out)?;
     }
     out.flush()
 }

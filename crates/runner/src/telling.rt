@@ -1,12 +1,10 @@
 // What a line is told, and how it is written.
-ghost use Rattle.std.specs.Prelude.{ℕ, OnOk, length, take};
+ghost use Rattle.std.specs.Prelude.{◌≡◌, ℕ, List, ◌++◌, OnOk, string_bytes, take};
 ghost use Rattle.std.specs.Io.KnownBytes.{Appends};
-ghost use Rattle.answers.specs.Spelling.{spell, word_text};
 ghost use Rattle.runner.specs.Steps.{area_line, telling_text};
 
 use crate::put;
 use refusal::Area;
-use std::alloc::Global;
 use std::io;
 use std::io::Write;
 
@@ -17,43 +15,48 @@ pub(crate) enum Telling {
     Words { area: Area, words: Vec<u32> },
 }
 
-// Writes each word behind a space. One by one, since no text is made of words that may be many.
-fn put_words<W: Write>(heap: Global, words: &[u32], out: &mut W) -> io::Result<()>
-    ensures all { OnOk result (Appends (W.contents out.old) (W.contents out.new) (spell word_text words.now)) }
-    ensures front { (count : ℕ) × Appends (W.contents out.old) (W.contents out.new) (take count (spell word_text words.now)) }
+// How long a text becomes before it is written, where more of it may follow.
+const PIECE: usize = 4096;
+
+// Writes a text that has become long, and empties it.
+fn spill<W: Write>(text: &mut String, out: &mut W) -> io::Result<()>
+    ensures all { OnOk result ((moved : List ℕ) × Appends (W.contents out.old) (W.contents out.new) moved × (moved ++ string_bytes text.new ≡ string_bytes text.old)) }
+    ensures front { (count : ℕ) × Appends (W.contents out.old) (W.contents out.new) (take count (string_bytes text.old)) }
 {
-    let mut text = String::new(heap);
-    'words: for word in words {
-        text.clear();
-        write!(text, " {word}")?;
-        put(out, text.as_bytes())?;
+    if text.len() < PIECE {
+        return Ok(());
     }
+    put(out, text.as_bytes())?;
+    text.clear();
     Ok(())
 }
 
-// Writes an area's name and its words, as a line.
-fn put_area<W: Write>(heap: Global, area: Area, words: &[u32], out: &mut W) -> io::Result<()>
+// Writes an area's name and its words as a line, a piece at a time: no text is made of words that may be many.
+fn put_area<W: Write>(area: Area, words: &[u32], text: &mut String, out: &mut W) -> io::Result<()>
     ensures all { OnOk result (Appends (W.contents out.old) (W.contents out.new) (area_line area words.now)) }
     ensures front { (count : ℕ) × Appends (W.contents out.old) (W.contents out.new) (take count (area_line area words.now)) }
 {
-    let name = format!(in heap; "{area}")?;
-    put(out, name.as_bytes())?;
-    put_words(heap, words, out)?;
-    put(out, b"\n")
+    text.clear();
+    write!(text, "{area}")?;
+    'words: for word in words {
+        spill(text, out)?;
+        write!(text, " {word}")?;
+    }
+    write!(text, "\n")?;
+    put(out, text.as_bytes())
 }
 
 // Writes what a line is told, with the text that stands ready. Where it fails, a front of that was written.
 pub(crate) fn put_telling<W: Write>(
-    heap: Global,
     telling: Telling,
-    text: &[u8],
+    text: &mut String,
     out: &mut W,
 ) -> io::Result<()>
-    ensures all { OnOk result (Appends (W.contents out.old) (W.contents out.new) (telling_text telling text.now)) }
-    ensures front { (count : ℕ) × Appends (W.contents out.old) (W.contents out.new) (take count (telling_text telling text.now)) }
+    ensures all { OnOk result (Appends (W.contents out.old) (W.contents out.new) (telling_text telling (string_bytes text.old))) }
+    ensures front { (count : ℕ) × Appends (W.contents out.old) (W.contents out.new) (take count (telling_text telling (string_bytes text.old))) }
 {
     match telling {
-        Telling::Text => put(out, text),
-        Telling::Words { area, words } => put_area(heap, area, words.as_slice(), out),
+        Telling::Text => put(out, text.as_bytes()),
+        Telling::Words { area, words } => put_area(area, words.as_slice(), text, out),
     }
 }

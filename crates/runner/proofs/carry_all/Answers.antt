@@ -1,5 +1,4 @@
-use Rattle.std.proofs.Common.{ℕ, ◌+◌, List, take, string_bytes, rules, refl, sym, ap, ◌∙◌, subst}
-use Rattle.std.specs.Io.KnownBytes.{Appends}
+use Rattle.std.proofs.Common.{ℕ, ◌+◌, string_bytes, rules, refl, sym, ap, ◌∙◌, subst}
 use Rattle.std.specs.Io.Iter.{split_byte, split_known_bytes}
 use Rattle.std.specs.Iterator.Adapters.{enumerate_source, enumerate_count}
 use Rattle.runner.specs.Steps.{ComesTo, telling_text}
@@ -27,12 +26,11 @@ lines-preserved g c =
     let line = c.as_slice.result.now in
     let read : ReadsLine left left' line = subst (ReadsLine left left') (sym c.as_slice.ensures.value) (rw (c.in_ok-line.was, inv.newline) at steps.0.2) in
     let comes = subst (λ (n : ℕ). ComesTo (n + 1) c.lines.world line c.told_line.new.world (telling_text c.in_ok-told.told (string_bytes c.told_line.new.text))) steps.1 c.in_ok-told.ensures in
-    let out = subst (λ (t : List ℕ). Appends (g.W.Write.contents c.lines.out) (g.W.Write.contents c.put_telling.new.out) (telling_text c.in_ok-told.told t)) c.as_bytes.ensures.value c.in_ok-put_telling.ensures.all in
     record {
       can = search rules;
       ends = search rules;
       newline = steps.0.1 ∙ inv.newline;
-      reads = rw steps.2 (go_on (g.R.Read.remaining c.args.input) left left' (enumerate_count c.lines.index-iterator) c.lines.world c.told_line.new.world (g.W.Write.contents c.args.out.now) (g.W.Write.contents c.lines.out) (g.W.Write.contents c.put_telling.new.out) line (telling_text c.in_ok-told.told (string_bytes c.told_line.new.text)) inv.reads read comes out);
+      reads = rw steps.2 (go_on (g.R.Read.remaining c.args.input) left left' (enumerate_count c.lines.index-iterator) c.lines.world c.told_line.new.world (g.W.Write.contents c.args.out.now) (g.W.Write.contents c.lines.out) (g.W.Write.contents c.put_telling.new.out) line (telling_text c.in_ok-told.told (string_bytes c.told_line.new.text)) inv.reads read comes c.in_ok-put_telling.ensures.all);
     }
 
 pub returns-in_err-put_telling-clause-front : goal.returns-in_err-put_telling-clause-front
@@ -45,8 +43,7 @@ returns-in_err-put_telling-clause-front g c =
     let read : ReadsLine left left' line = subst (ReadsLine left left') (sym c.as_slice.ensures.value) (rw (c.in_ok-line.was, inv.newline) at steps.0.2) in
     let comes = subst (λ (n : ℕ). ComesTo (n + 1) c.lines.world line c.told_line.new.world (telling_text c.in_ok-told.told (string_bytes c.told_line.new.text))) steps.1 c.in_ok-told.ensures in
     let front = c.in_err-put_telling.ensures.front in
-    let out = subst (λ (t : List ℕ). Appends (g.W.Write.contents c.lines.out) (g.W.Write.contents c.put_telling.new.out) (take front.0 (telling_text c.in_ok-told.told t))) c.as_bytes.ensures.value front.1 in
-    stop_within (g.R.Read.remaining c.args.input) left left' (enumerate_count c.lines.index-iterator) front.0 c.lines.world c.told_line.new.world (g.W.Write.contents c.args.out.now) (g.W.Write.contents c.lines.out) (g.W.Write.contents c.put_telling.new.out) line (telling_text c.in_ok-told.told (string_bytes c.told_line.new.text)) inv.reads read comes out
+    stop_within (g.R.Read.remaining c.args.input) left left' (enumerate_count c.lines.index-iterator) front.0 c.lines.world c.told_line.new.world (g.W.Write.contents c.args.out.now) (g.W.Write.contents c.lines.out) (g.W.Write.contents c.put_telling.new.out) line (telling_text c.in_ok-told.told (string_bytes c.told_line.new.text)) inv.reads read comes front.1
 
 pub returns-in_err-line-clause-front : goal.returns-in_err-line-clause-front
 returns-in_err-line-clause-front g c = stop (g.R.Read.remaining c.args.input) _ _ _ (g.W.Write.contents c.args.out.now) _ _ c.lines.invariant.reads (kept (g.W.Write.contents c.lines.out))
