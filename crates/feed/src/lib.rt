@@ -62,17 +62,19 @@ impl Feed {
     }
 }
 
-// The word that comes next, through each check from the lowest up.
-// Out of line, so that a draw with no check is short enough to stand at each call; and not cold, since a draw through many checks
-// is nothing but this.
-#[inline(never)]
-#[cycle(draw)]
-fn draw_checked(watch: &mut Watch, below: &mut Feed) -> Result<u32, Mark>
-    ensures { Drawn result (health_flow watch.old (feed_flow below.old)) (health_flow watch.new (feed_flow below.new)) }
+// The word that comes next, through each check from the lowest up. A draw through a pile of checks is this function alone.
+fn draw_through(feed: &mut Feed) -> Result<u32, Mark>
+    ensures { Drawn result (feed_flow feed.old) (feed_flow feed.new) }
 {
-    watch.check()?;
-    let word = below.draw()?;
-    watch.admit(word)
+    match feed {
+        Feed::Tape(tape) => tape.draw(),
+        Feed::Stretched(generator) => generator.draw(),
+        Feed::Checked(watch, below) => {
+            watch.check()?;
+            let word = draw_through(below)?;
+            watch.admit(word)
+        }
+    }
 }
 
 impl Source for Feed {
@@ -80,13 +82,13 @@ impl Source for Feed {
 
     ghost few = { feed_few };
 
+    // The first two arms once more, so that a draw with no check is short enough to stand at each call.
     #[inline]
-    #[cycle(draw)]
     fn draw(&mut self) -> Result<u32, Mark> {
         match self {
             Feed::Tape(tape) => tape.draw(),
             Feed::Stretched(generator) => generator.draw(),
-            Feed::Checked(watch, below) => draw_checked(watch, below),
+            Feed::Checked(..) => draw_through(self),
         }
     }
 }
