@@ -1,18 +1,19 @@
 -- Texts one after another.
-use Rattle.std.proofs.Common.{◌≡◌, ℕ, ◌+◌, ◌<◌, ◌≤◌, List, [], ◌∷◌, ◌++◌, length, get_or, take, sym, ap, ◌∙◌, append_assoc, append-nil}
+use Rattle.std.proofs.Common.{◌≡◌, ℕ, ◌+◌, ◌<◌, ◌≤◌, List, [], ◌∷◌, ◌++◌, length, get_or, take, refl, sym, ap, ◌∙◌, append_assoc, append-nil}
 use Rattle.std.proofs.Output.{has_written_of_eq, has_written_append, writes_in_calls_nil}
 use Rattle.std.specs.Fmt.{IsPlainFormatter, HasWritten}
 use Rattle.std.specs.declared.fmt.Formatter.{Formatter}
 use Rattle.std.proofs.lemmas.List.{take_all, take_more}
 use Rattle.answers.specs.Spelling.{spell}
 
-spell_push : (text : ℕ → List ℕ) (xs : List ℕ) (x : ℕ) → spell text (xs ++ (x ∷ [])) ≡ spell text xs ++ text x
-spell_push text [] x = append-nil (text x)
-spell_push text (y ∷ xs) x = ap (λ (l : List ℕ). text y ++ l) (spell_push text xs x) ∙ sym (append_assoc (text y) (spell text xs) (text x))
+pub spell_join : (text : ℕ → List ℕ) (xs ys : List ℕ) → spell text (xs ++ ys) ≡ spell text xs ++ spell text ys
+spell_join text [] ys = refl
+spell_join text (x ∷ xs) ys = ap (λ (l : List ℕ). text x ++ l) (spell_join text xs ys) ∙ sym (append_assoc (text x) (spell text xs) (spell text ys))
 
 -- one text more
 pub spell_more : (text : ℕ → List ℕ) (xs : List ℕ) (i : ℕ) → i < length xs → spell text (take (i + 1) xs) ≡ spell text (take i xs) ++ text (get_or xs i 0)
-spell_more text xs i h = ap (spell text) (take_more xs i 0 h) ∙ spell_push text (take i xs) (get_or xs i 0)
+spell_more text xs i h =
+    ap (spell text) (take_more xs i 0 h) ∙ spell_join text (take i xs) (get_or xs i 0 ∷ []) ∙ ap (λ (l : List ℕ). spell text (take i xs) ++ l) (append-nil (text (get_or xs i 0)))
 
 -- the same of a writer: the texts so far, the next one, and all
 module _ {W : Type 0} (took : W → List ℕ → W → Type 0) where

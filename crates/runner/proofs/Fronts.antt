@@ -1,22 +1,18 @@
 -- What was written of a text whose parts are written one behind another.
-use Rattle.std.proofs.Common.{◌≡◌, ℕ, ◌+◌, ◌<◌, List, [], ◌∷◌, ◌++◌, length, get_or, min, take, drop, Option, refl, sym, ap, ◌∙◌, subst, arith, append_assoc}
+use Rattle.std.proofs.Common.{◌≡◌, ℕ, ◌+◌, ◌<◌, List, [], ◌∷◌, ◌++◌, length, get_or, min, take, drop, Option, sym, ap, ◌∙◌, subst, arith, append_assoc}
 use Rattle.std.specs.Io.KnownBytes.{Appends}
 use Rattle.std.proofs.Math.Seq.{take-append-add}
-use Rattle.std.proofs.lemmas.List.{take-append-drop, take_all, take-append-le, take_min}
+use Rattle.std.proofs.lemmas.List.{take-append-drop, take-append-le, take_min}
 use Rattle.answers.specs.Spelling.{spell, word_text}
-use Rattle.answers.proofs.Spellings.{spell_more}
+use Rattle.answers.proofs.Spellings.{spell_join, spell_more}
 use Rattle.runner.proofs.SoFar.{none_yet, appends_both}
 
 -- a front of a text was written
 abbrev pub Front : Option (List ℕ) → Option (List ℕ) → List ℕ → Type 0
 Front old new text = (count : ℕ) × Appends old new (take count text)
 
--- nothing, or all
 pub nothing : (a : Option (List ℕ)) (xs : List ℕ) → Front a a xs
 nothing a xs = (0, none_yet a)
-
-pub everything : (a b : Option (List ℕ)) (xs : List ℕ) → Appends a b xs → Front a b xs
-everything a b xs p = (length xs, subst (Appends a b) (sym (take_all (length xs) xs (omega arith))) p)
 
 -- a front of the first part; and one of the second, once the first is written
 pub in_first : (a b : Option (List ℕ)) (xs ys : List ℕ) → Front a b xs → Front a b (xs ++ ys)
@@ -27,10 +23,6 @@ in_first a b xs ys front =
 pub in_second : (a b c : Option (List ℕ)) (xs ys : List ℕ) → Appends a b xs → Front b c ys → Front a c (xs ++ ys)
 in_second a b c xs ys first front =
     (length xs + front.0, subst (Appends a c) (sym (take-append-add xs ys front.0)) (appends_both a b c xs (take front.0 ys) first front.1))
-
-spell_join : (text : ℕ → List ℕ) (xs ys : List ℕ) → spell text (xs ++ ys) ≡ spell text xs ++ spell text ys
-spell_join text [] ys = refl
-spell_join text (x ∷ xs) ys = ap (λ (l : List ℕ). text x ++ l) (spell_join text xs ys) ∙ sym (append_assoc (text x) (spell text xs) (spell text ys))
 
 -- some words, and the others
 spell_parts : (text : ℕ → List ℕ) (xs : List ℕ) (i : ℕ) → spell text xs ≡ spell text (take i xs) ++ spell text (drop i xs)
@@ -43,9 +35,6 @@ so_far name words i = name ++ spell word_text (take i words)
 -- some of that was written, and the rest stands ready
 abbrev pub Ready : Option (List ℕ) → Option (List ℕ) → (ready text : List ℕ) → Type 0
 Ready old new ready text = (done : List ℕ) × Appends old new done × (done ++ ready ≡ text)
-
-pub ready_none : (a : Option (List ℕ)) (ready text : List ℕ) → ready ≡ text → Ready a a ready text
-ready_none a ready text e = ([], none_yet a, e)
 
 -- a part of what stands ready is written
 pub ready_moved : (a b c : Option (List ℕ)) (ready ready' text : List ℕ) → Ready a b ready text → (moved : List ℕ) × Appends b c moved × (moved ++ ready' ≡ ready) → Ready a c ready' text
@@ -60,10 +49,6 @@ ready_more a b ready ready' text more is r =
 -- a front of what stands ready is written
 pub ready_front : (a b c : Option (List ℕ)) (ready text : List ℕ) → Ready a b ready text → Front b c ready → Front a c text
 ready_front a b c ready text r front = subst (Front a c) r.2 (in_second a b c r.0 ready r.1 front)
-
--- all of it
-pub ready_all : (a b c : Option (List ℕ)) (ready text : List ℕ) → Ready a b ready text → Appends b c ready → Appends a c text
-ready_all a b c ready text r p = subst (Appends a c) r.2 (appends_both a b c r.0 ready r.1 p)
 
 -- one word more
 pub one_word : (name words : List ℕ) (i : ℕ) → i < length words → so_far name words i ++ word_text (get_or words i 0) ≡ so_far name words (i + 1)
